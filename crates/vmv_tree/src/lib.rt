@@ -1,0 +1,13 @@
+//! The analysed language: programs as trees, and what they mean.
+//!
+//! The types are those of the syntax. The definitions in `specs/` say which programs are valid, what their runs
+//! are, and what it means that an environment is safe for a program and that a revision is relatively correct.
+#![tactic(auto)]
+
+mod name;
+mod tree;
+
+pub use name::Name;
+pub use tree::{
+    Args, Block, Body, Item, Items, Names, Op, Operand, Param, Params, Program, Rel, Stmt, Test,
+};
