@@ -5,3 +5,6 @@ pub mod View
 pub mod Words
 pub mod Run
 pub mod Safe
+pub mod Mentions
+pub mod Limits
+pub mod Valid
