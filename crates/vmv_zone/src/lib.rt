@@ -1,0 +1,8 @@
+//! Ranges of words.
+#![tactic(auto)]
+
+mod range;
+mod rel;
+
+pub use range::{Range, always};
+pub use rel::ZoneRel;
