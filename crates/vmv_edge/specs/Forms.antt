@@ -1,5 +1,5 @@
 -- What the forms in memory hold, and which of their calls fail.
-use Rattle.std.specs.Prelude.{ℕ, ◌+◌, ◌<◌, ◌⊎◌, List, [], Option, Some, None, Bool, IsTrue, IsNone, min, length, unwrap_or, if◌then◌else◌}
+use Rattle.std.specs.Prelude.{ℕ, ◌+◌, ◌<◌, ◌⊎◌, List, [], Option, Some, None, IsTrue, IsNone, min, length, unwrap_or, if◌then◌else◌}
 use Rattle.vmv_edge.specs.declared.calls.Calls.{Calls}
 use Rattle.vmv_edge.specs.declared.memory_shelf.MemoryShelf.{MemoryShelf}
 use Rattle.vmv_edge.specs.declared.memory_shelf.FaultlessShelf.{FaultlessShelf}

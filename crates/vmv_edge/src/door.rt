@@ -1,5 +1,5 @@
 ghost use Rattle.std.specs.Prelude.{◌≡◌, ℕ};
-ghost use Rattle.vmv_edge.specs.Calls.{AreUnused};
+ghost use Rattle.vmv_edge.specs.Calls.{AreUnused, failed_calls};
 ghost use Rattle.vmv_edge.specs.Forms.{door_calls};
 
 use crate::calls::Calls;
@@ -32,7 +32,7 @@ impl MemoryDoor {
 }
 
 impl Door for MemoryDoor {
-    ghost fault_count = { λ door. (door_calls door).faults.count };
+    ghost fault_count = { λ door. failed_calls (door_calls door) };
 
     fn faults(&self) -> u64 {
         self.calls.faults()

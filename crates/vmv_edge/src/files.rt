@@ -18,7 +18,10 @@ pub struct FileShelf<'r, R: Files> {
 impl<'r, R: Files> FileShelf<'r, R> {
     /// The files that the runtime reaches.
     pub fn new(rt: &'r R) -> FileShelf<'r, R> {
-        FileShelf { rt, faults: Faults::none() }
+        FileShelf {
+            rt,
+            faults: Faults::none(),
+        }
     }
 }
 

@@ -18,6 +18,7 @@ mod streams;
 mod text;
 mod vault;
 
+pub use calls::Calls;
 pub use door::{Door, FaultlessDoor, MemoryDoor};
 pub use files::FileShelf;
 pub use memory_shelf::{FaultlessShelf, MemoryShelf};

@@ -2,7 +2,7 @@ ghost use Rattle.std.specs.Prelude.{◌≡◌, ◌++◌, ◌∷◌, [], ◌↔�
 ghost use Rattle.std.specs.Option.{option_copied};
 ghost use Rattle.std.specs.Cmp.Lexicographic.{pointwise};
 ghost use Rattle.vmv_edge.specs.Outside.{Rose, IsAsTold, IsMoreThan};
-ghost use Rattle.vmv_edge.specs.Calls.{AreUnused, IsOneMore};
+ghost use Rattle.vmv_edge.specs.Calls.{AreUnused, IsOneMore, failed_calls};
 ghost use Rattle.vmv_edge.specs.Held.{text_under};
 ghost use Rattle.vmv_edge.specs.Forms.{held, reads, ReadFails, given};
 
@@ -83,15 +83,15 @@ impl MemoryShelf {
 impl Shelf for MemoryShelf {
     ghost told = { held };
 
-    ghost fault_count = { λ shelf. (reads shelf).faults.count };
+    ghost fault_count = { λ shelf. failed_calls (reads shelf) };
 
     fn read(&mut self, alloc: Global, name: &str, most: usize) -> Result<Text, ShelfFault>
         ensures bytes { IfOk result (IsAsTold (held self.old name.now)) }
         ensures within { IfOk result (λ text. length text ≤ most) }
         ensures too_long { IsErrOf result ShelfFault.TooLong → IsMoreThan (held self.old name.now) most }
-        ensures failed { IsErrOf result ShelfFault.Failed → Rose (reads self.old).faults.count (reads self.new).faults.count }
-        ensures stands { ¬ (IsErrOf result ShelfFault.Failed) → (reads self.new).faults.count ≡ (reads self.old).faults.count }
-        ensures later { (reads self.old).faults.count ≤ (reads self.new).faults.count }
+        ensures failed { IsErrOf result ShelfFault.Failed → Rose (failed_calls (reads self.old)) (failed_calls (reads self.new)) }
+        ensures stands { ¬ (IsErrOf result ShelfFault.Failed) → failed_calls (reads self.new) ≡ failed_calls (reads self.old) }
+        ensures later { failed_calls (reads self.old) ≤ failed_calls (reads self.new) }
         ensures kept { held self.new ≡ held self.old }
         ensures fails { IsErrOf result ShelfFault.Failed ↔ ReadFails self.old name.now }
         ensures counted { IsOneMore (reads self.old) (reads self.new) }

@@ -1,7 +1,7 @@
 ghost use Rattle.std.specs.Prelude.{◌≡◌, ◌++◌, [], ◌+◌, ◌⊎◌, ◌<◌, ◌≤◌, ◌↔◌, length, take, Some, Ok, IfOk, OnErr, IsErr, IfSome};
 ghost use Rattle.std.specs.Option.{option_copied};
 ghost use Rattle.vmv_edge.specs.Outside.{Rose, Appended, AppendedFront, TookNothing, TookSome};
-ghost use Rattle.vmv_edge.specs.Calls.{AreUnused, IsOneMore};
+ghost use Rattle.vmv_edge.specs.Calls.{AreUnused, IsOneMore, failed_calls};
 ghost use Rattle.vmv_edge.specs.Forms.{kept, writes, size_of, most_of, share, WriteFails, shown, whole_size_of};
 
 use crate::calls::Calls;
@@ -24,7 +24,12 @@ impl MemorySink {
     ///
     /// Each write takes at most `most` bytes: with 0, each takes nothing, which is a fault. It fails where
     /// there is no memory for the room.
-    pub fn new(alloc: Global, size: usize, most: usize, failing: Vec<u64>) -> Result<MemorySink, AllocError>
+    pub fn new(
+        alloc: Global,
+        size: usize,
+        most: usize,
+        failing: Vec<u64>,
+    ) -> Result<MemorySink, AllocError>
         ensures empty { IfOk result (λ sink. kept sink ≡ []) }
         ensures size { IfOk result (λ sink. size_of sink ≡ size) }
         ensures most { IfOk result (λ sink. most_of sink ≡ most) }
@@ -43,31 +48,21 @@ impl MemorySink {
     {
         self.room.bytes()
     }
-
-    fn fail(&mut self) -> Failed
-        ensures counted { Rose (writes self.old).faults.count (writes self.new).faults.count }
-        ensures later { (writes self.old).faults.count ≤ (writes self.new).faults.count }
-        ensures rest { self.new ≡ record self.old { calls = self.new.calls } }
-        ensures made { (self.new.calls.made ≡ self.old.calls.made) × (self.new.calls.failing ≡ self.old.calls.failing) }
-    {
-        self.calls.fail();
-        Failed
-    }
 }
 
 impl Sink for MemorySink {
     ghost taken = { λ sink. Some (kept sink) };
 
-    ghost fault_count = { λ sink. (writes sink).faults.count };
+    ghost fault_count = { λ sink. failed_calls (writes sink) };
 
     fn write(&mut self, piece: &[u8]) -> Result<usize, Failed>
         ensures within { IfOk result (λ n. n ≤ length piece.now) }
         ensures appended { IfOk result (λ n. kept self.new ≡ kept self.old ++ take n piece.now) }
         ensures prefix { OnErr result (kept self.new ≡ kept self.old) }
-        ensures failed { OnErr result (Rose (writes self.old).faults.count (writes self.new).faults.count) }
-        ensures nothing { TookNothing result (length piece.now) → Rose (writes self.old).faults.count (writes self.new).faults.count }
-        ensures stands { TookSome result (length piece.now) → (writes self.new).faults.count ≡ (writes self.old).faults.count }
-        ensures later { (writes self.old).faults.count ≤ (writes self.new).faults.count }
+        ensures failed { OnErr result (Rose (failed_calls (writes self.old)) (failed_calls (writes self.new))) }
+        ensures nothing { TookNothing result (length piece.now) → Rose (failed_calls (writes self.old)) (failed_calls (writes self.new)) }
+        ensures stands { TookSome result (length piece.now) → failed_calls (writes self.new) ≡ failed_calls (writes self.old) }
+        ensures later { failed_calls (writes self.old) ≤ failed_calls (writes self.new) }
         ensures fails { IsErr result ↔ WriteFails self.old piece.now }
         ensures share { IfOk result (λ n. n ≡ share self.old piece.now) }
         ensures counted { IsOneMore (writes self.old) (writes self.new) }
@@ -77,10 +72,11 @@ impl Sink for MemorySink {
         let fails = self.calls.begin();
         let len = piece.len().min(self.most);
         if fails || !self.room.keep(&piece[..len]) {
-            return Err(self.fail());
+            self.calls.fail();
+            return Err(Failed);
         }
         if len == 0 && !piece.is_empty() {
-            let _ = self.fail();
+            self.calls.fail();
         }
         Ok(len)
     }

@@ -17,7 +17,10 @@ pub struct StreamSink<W> {
 impl<W> StreamSink<W> {
     /// A sink that hands on to the writer.
     pub fn new(writer: W) -> StreamSink<W> {
-        StreamSink { writer, faults: Faults::none() }
+        StreamSink {
+            writer,
+            faults: Faults::none(),
+        }
     }
 }
 

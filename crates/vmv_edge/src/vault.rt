@@ -1,5 +1,5 @@
 ghost use Rattle.std.specs.Prelude.{◌≡◌, ℕ};
-ghost use Rattle.vmv_edge.specs.Calls.{AreUnused};
+ghost use Rattle.vmv_edge.specs.Calls.{AreUnused, failed_calls};
 ghost use Rattle.vmv_edge.specs.Forms.{vault_calls};
 
 use crate::calls::Calls;
@@ -32,7 +32,7 @@ impl MemoryVault {
 }
 
 impl Vault for MemoryVault {
-    ghost fault_count = { λ vault. (vault_calls vault).faults.count };
+    ghost fault_count = { λ vault. failed_calls (vault_calls vault) };
 
     fn faults(&self) -> u64 {
         self.calls.faults()
