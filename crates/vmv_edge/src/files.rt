@@ -1,4 +1,4 @@
-ghost use Rattle.std.specs.Prelude.{None};
+ghost use Rattle.std.specs.Prelude.{◌≡◌, None};
 
 use crate::faults::Faults;
 use crate::shelf::{Shelf, ShelfFault};
@@ -17,7 +17,9 @@ pub struct FileShelf<'r, R: Files> {
 
 impl<'r, R: Files> FileShelf<'r, R> {
     /// The files that the runtime reaches.
-    pub fn new(rt: &'r R) -> FileShelf<'r, R> {
+    pub fn new(rt: &'r R) -> FileShelf<'r, R>
+        ensures { ⟦<FileShelf<'r, R> as Shelf>⟧.fault_count result ≡ 0 }
+    {
         FileShelf {
             rt,
             faults: Faults::none(),

@@ -1,4 +1,4 @@
-ghost use Rattle.std.specs.Prelude.{None};
+ghost use Rattle.std.specs.Prelude.{◌≡◌, None};
 
 use crate::faults::Faults;
 use crate::sink::{Failed, Sink};
@@ -14,9 +14,11 @@ pub struct StreamSink<W> {
     faults: Faults,
 }
 
-impl<W> StreamSink<W> {
+impl<W: Write> StreamSink<W> {
     /// A sink that hands on to the writer.
-    pub fn new(writer: W) -> StreamSink<W> {
+    pub fn new(writer: W) -> StreamSink<W>
+        ensures { ⟦<StreamSink<W> as Sink>⟧.fault_count result ≡ 0 }
+    {
         StreamSink {
             writer,
             faults: Faults::none(),
