@@ -11,3 +11,6 @@ pub use name::Name;
 pub use tree::{
     Args, Block, Body, Item, Items, Names, Op, Operand, Param, Params, Program, Rel, Stmt, Test,
 };
+
+#[cfg(test)]
+mod tests;

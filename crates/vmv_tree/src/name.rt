@@ -4,7 +4,8 @@ ghost use Rattle.std.specs.List.{list_all};
 
 use std::marker::Model;
 
-/// A name of 1 to 64 bytes, seen as its bytes.
+/// A name: a letter or `_`, then letters, digits and `_`, all of ASCII, 1 to 64 bytes, and no keyword. A contract sees
+/// it as its bytes.
 #[derive(Clone, Copy, PartialEq, Eq, Debug, Drop)]
 pub struct Name {
     bytes: [u8; 64],
@@ -138,7 +139,7 @@ fn padded(bytes: &[u8]) -> [u8; 64]
 }
 
 impl Name {
-    /// The name of these bytes, if they are a name's.
+    /// The name of these bytes, and `None` exactly where they aren't a name's. It takes no memory.
     pub fn read(bytes: &[u8]) -> Option<Name>
         ensures some { IsSome result ↔ IsTrue (is_name bytes.now) }
         ensures value { IfSome result (λ name. name ≡ bytes.now) }
@@ -152,6 +153,7 @@ impl Name {
         })
     }
 
+    /// Its bytes.
     pub fn bytes(&self) -> &[u8]
         ensures { result.now ≡ self.now }
     {

@@ -15,7 +15,7 @@ pub type Block = sqlite_items::Items<Stmt>;
 /// The items of a program, in text order.
 pub type Items = sqlite_items::Items<Item>;
 
-/// A literal or a variable.
+/// What a statement reads: a literal word or a variable.
 #[derive(Clone, Copy, PartialEq, Eq, Debug, Drop)]
 pub enum Operand {
     Lit(i64),
@@ -33,7 +33,8 @@ pub enum Rel {
     AtLeast,
 }
 
-/// An operation on two words.
+/// An operation on two words. It fails where its result isn't a word, where it divides by 0, and at the least word
+/// divided by -1, the remainder too. Division truncates toward zero, and a remainder has the dividend's sign.
 #[derive(Clone, Copy, PartialEq, Eq, Debug, Drop)]
 pub enum Op {
     Add,
@@ -43,6 +44,7 @@ pub enum Op {
     Rem,
 }
 
+/// A comparison that an assert or an `if` makes.
 #[derive(Clone, Copy, PartialEq, Eq, Debug, Drop)]
 pub struct Test {
     pub left: Operand,
@@ -50,31 +52,39 @@ pub struct Test {
     pub right: Operand,
 }
 
+/// A statement.
 #[derive(Debug, Drop)]
 pub enum Stmt {
+    /// `to = from;`
     Set {
         to: Name,
         from: Operand,
     },
+    /// `to = left op right;`
     Arith {
         to: Name,
         op: Op,
         left: Operand,
         right: Operand,
     },
+    /// `to = callee(args);`, of an outside function or a helper.
     Call {
         to: Name,
         callee: Name,
         args: Args,
     },
+    /// `assert test;`
     Assert {
         test: Test,
     },
+    /// `if test { first } else { second }`. An absent second part is an empty one.
     If {
         test: Test,
         first: Block,
         second: Block,
     },
+    /// `repeat index to bound cap cap { body }`: the body for each index from 0 to the bound minus 1. A bound above the
+    /// cap, which is 0 or more, fails.
     Repeat {
         index: Name,
         bound: Operand,
@@ -83,6 +93,7 @@ pub enum Stmt {
     },
 }
 
+/// What a procedure does: its variables, all 0 at the start, its statements, and what it returns.
 #[derive(Debug, Drop)]
 pub struct Body {
     pub vars: Names,
@@ -90,6 +101,7 @@ pub struct Body {
     pub result: Operand,
 }
 
+/// A parameter of an entry, which is run for every word from `lo` to `hi`, both included.
 #[derive(Clone, Copy, PartialEq, Eq, Debug, Drop)]
 pub struct Param {
     pub name: Name,
@@ -97,17 +109,21 @@ pub struct Param {
     pub hi: i64,
 }
 
+/// What a program declares.
 #[derive(Debug, Drop)]
 pub enum Item {
+    /// An outside function, with so many arguments, 0 or more. Each call of it answers any word.
     Outside {
         name: Name,
         arity: i64,
     },
+    /// A procedure that entries and the helpers below it call.
     Helper {
         name: Name,
         params: Names,
         body: Body,
     },
+    /// A procedure that is run for every value of its parameters.
     Entry {
         name: Name,
         params: Params,
@@ -115,6 +131,7 @@ pub enum Item {
     },
 }
 
+/// A program as its text has it, valid or not.
 #[derive(Debug, Drop)]
 pub struct Program {
     pub items: Items,
