@@ -1,5 +1,5 @@
 -- What the limits of the language measure.
-use Rattle.std.specs.Prelude.{ℕ, ◌+◌, ◌*◌, max, ℤ, Bool, List, [], ◌∷◌, ◌++◌, length, if◌then◌else◌}
+use Rattle.std.specs.Prelude.{ℕ, ◌+◌, ◌*◌, max, ℤ, List, [], ◌∷◌, ◌++◌, length, if◌then◌else◌}
 use Rattle.std.specs.List.{list_any}
 use Rattle.std.specs.Ordering.{int_eq}
 use Rattle.std.specs.Str.{bytes_eq}
@@ -8,7 +8,7 @@ use Rattle.vmv_tree.specs.declared.tree.Operand.{Operand}
 use Rattle.vmv_tree.specs.declared.tree.Operand.TheVariants.{Lit, Var}
 use Rattle.vmv_tree.specs.declared.tree.Test.{Test}
 use Rattle.vmv_tree.specs.declared.tree.Param.{Param}
-use Rattle.vmv_tree.specs.Tree.{Stmt, copy, compute, call, assert, choose, repeat, Block, [], ◌∷◌, Body, Item, outside, helper, entry}
+use Rattle.vmv_tree.specs.Tree.{Stmt, copy, compute, call, assert, choose, repeat, Block, [], ◌⨾◌, Body, Item, outside, helper, entry}
 use Rattle.vmv_tree.specs.Run.{turns_of}
 
 -- What a call of a name brings, over the items above, the nearest first: that of an outside name, or that of a
@@ -53,7 +53,7 @@ abbrev mutual
 
   pub block_indexes : Block → List Name
   block_indexes [] = []
-  block_indexes (s ∷ rest) = indexes_of s ++ block_indexes rest
+  block_indexes (s ⨾ rest) = indexes_of s ++ block_indexes rest
 
 -- the variables of a procedure: its parameters and `var` names, and an index and a bound for each loop
 abbrev pub variables : List Name → Body → ℕ
@@ -71,7 +71,7 @@ abbrev mutual
 
   pub block_statements : Block → ℕ
   block_statements [] = 0
-  block_statements (s ∷ rest) = statements s + block_statements rest
+  block_statements (s ⨾ rest) = statements s + block_statements rest
 
 -- how deep blocks stand in one another inside a statement
 abbrev mutual
@@ -85,7 +85,7 @@ abbrev mutual
 
   pub block_nesting : Block → ℕ
   block_nesting [] = 0
-  block_nesting (s ∷ rest) = max (nesting s) (block_nesting rest)
+  block_nesting (s ⨾ rest) = max (nesting s) (block_nesting rest)
 
 -- the greatest that its calls bring
 abbrev mutual
@@ -99,7 +99,7 @@ abbrev mutual
 
   pub block_deepest : (Name → ℕ) → Block → ℕ
   block_deepest of [] = 0
-  block_deepest of (s ∷ rest) = max (deepest of s) (block_deepest of rest)
+  block_deepest of (s ⨾ rest) = max (deepest of s) (block_deepest of rest)
 
 -- the depth of a helper: 1 more than its deepest callee
 abbrev pub depth_of : (Name → ℕ) → Body → ℕ
@@ -120,7 +120,7 @@ abbrev mutual
 
   pub block_paths : (Name → ℕ) → Block → ℕ
   block_paths of [] = 0
-  block_paths of (s ∷ rest) = paths of s + block_paths of rest
+  block_paths of (s ⨾ rest) = paths of s + block_paths of rest
 
 -- the call paths of an entry: for each call of a helper 1 and the callee's own
 abbrev pub call_paths : List Item → Body → ℕ
@@ -138,7 +138,7 @@ abbrev mutual
 
   pub block_steps : (Name → ℕ) → Block → ℕ
   block_steps of [] = 0
-  block_steps of (s ∷ rest) = steps of s + block_steps of rest
+  block_steps of (s ⨾ rest) = steps of s + block_steps of rest
 
 -- those of a body, its `return` too
 abbrev pub body_steps : (Name → ℕ) → Body → ℕ
@@ -159,7 +159,7 @@ abbrev mutual
 
   pub block_asks : (Name → ℕ) → Block → ℕ
   block_asks of [] = 0
-  block_asks of (s ∷ rest) = asks of s + block_asks of rest
+  block_asks of (s ⨾ rest) = asks of s + block_asks of rest
 
 abbrev pub unrolled_calls : List Item → Body → ℕ
 unrolled_calls above body = block_asks (brought 0 1 (λ of b. block_asks of b.block) above) body.block
@@ -187,7 +187,7 @@ abbrev mutual
 
   pub block_numbers : (Name → List ℤ) → Block → List ℤ
   block_numbers of [] = []
-  block_numbers of (s ∷ rest) = numbers of s ++ block_numbers of rest
+  block_numbers of (s ⨾ rest) = numbers of s ++ block_numbers of rest
 
 abbrev pub body_numbers : (Name → List ℤ) → Body → List ℤ
 body_numbers of body = block_numbers of body.block ++ operand_numbers body.output

@@ -3,7 +3,7 @@ use Rattle.std.specs.Prelude.{ℕ, ◌+◌, List, [], ◌∷◌, length}
 use Rattle.vmv_tree.specs.declared.tree.Operand.{Operand}
 use Rattle.vmv_tree.specs.declared.tree.Operand.TheVariants.{Lit, Var}
 use Rattle.vmv_tree.specs.declared.tree.Test.{Test}
-use Rattle.vmv_tree.specs.Tree.{Stmt, copy, compute, call, assert, choose, repeat, Block, [], ◌∷◌, Body, Item, outside, helper, entry}
+use Rattle.vmv_tree.specs.Tree.{Stmt, copy, compute, call, assert, choose, repeat, Block, [], ◌⨾◌, Body, Item, outside, helper, entry}
 
 abbrev pub operand_mentions : Operand → ℕ
 operand_mentions (Lit word) = 0
@@ -27,7 +27,7 @@ abbrev mutual
 
   pub block_mentions : Block → ℕ
   block_mentions [] = 0
-  block_mentions (s ∷ rest) = mentions s + block_mentions rest
+  block_mentions (s ⨾ rest) = mentions s + block_mentions rest
 
 -- the variables, the statements, the returned operand
 abbrev pub body_mentions : Body → ℕ

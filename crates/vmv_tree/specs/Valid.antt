@@ -7,7 +7,7 @@ use Rattle.vmv_tree.specs.declared.tree.Operand.{Operand}
 use Rattle.vmv_tree.specs.declared.tree.Operand.TheVariants.{Lit, Var}
 use Rattle.vmv_tree.specs.declared.tree.Test.{Test}
 use Rattle.vmv_tree.specs.declared.tree.Param.{Param}
-use Rattle.vmv_tree.specs.Tree.{Stmt, copy, compute, call, assert, choose, repeat, Block, [], ◌∷◌, Body, Item, outside, helper, entry}
+use Rattle.vmv_tree.specs.Tree.{Stmt, copy, compute, call, assert, choose, repeat, Block, [], ◌⨾◌, Body, Item, outside, helper, entry}
 use Rattle.vmv_tree.specs.Run.{turns_of, name_of}
 use Rattle.vmv_tree.specs.Mentions.{operand_mentions, test_mentions, mentions, block_mentions, item_mentions}
 use Rattle.vmv_tree.specs.Limits.{outside_count, helper_count, entry_count, indexes_of, block_indexes, variables, block_statements, block_nesting, helper_depth, entry_numbers, distinct, call_paths, unrolled_steps, unrolled_calls}
@@ -99,7 +99,7 @@ abbrev mutual
 
   pub InBlock : Scope → ℕ → Block → Finds
   InBlock scope k [] m d = ⊥
-  InBlock scope k (s ∷ rest) m d =
+  InBlock scope k (s ⨾ rest) m d =
       InStmt scope k s m d ⊎ InBlock (record scope { declared = scope.declared ++ indexes_of s }) (k + mentions s) rest m d
 
 -- a name that stands among those before it
