@@ -28,7 +28,7 @@ fn is_white(b: u8) -> bool
 }
 
 /// How many bytes stand before the next token.
-pub(crate) fn gap_len(text: &[u8]) -> usize
+fn gap_len(text: &[u8]) -> usize
     ensures within { result ≤ length text.now }
     ensures gap { drop result text.now ≡ after_gap false text.now }
 {
@@ -44,6 +44,15 @@ pub(crate) fn gap_len(text: &[u8]) -> usize
         }
     }
     text.len()
+}
+
+/// The text from the next token on.
+pub(crate) fn behind_gap(text: &[u8]) -> &[u8]
+    ensures exact { result.now ≡ after_gap false text.now }
+    ensures within { length result.now ≤ length text.now }
+{
+    let (_gap, rest) = text.split_at(gap_len(text));
+    rest
 }
 
 fn word_len(text: &[u8]) -> usize

@@ -1,0 +1,75 @@
+-- The tokens of a text are its first, and those of what is behind it.
+use Rattle.std.proofs.Common.{◌≡◌, ℕ, zero, suc, ◌+◌, ◌<◌, ◌≤◌, Bool, true, false, not, ◌&&◌, ◌||◌, cond, Option, Some, None, List, [], ◌∷◌, length, drop, take, refl, ap, ◌∙◌, arith, length-drop}
+use Rattle.std.specs.Prelude.{◌==◌, if◌then◌else◌, unwrap_or}
+use Rattle.std.specs.Option.{option_map}
+use Rattle.vmv_tree.specs.Names.{is_letter, is_digit}
+use Rattle.vmv_text.specs.declared.token.Token.{Token}
+use Rattle.vmv_text.specs.Tokens.{Placed, is_white, begins_with, after_gap, token_at, mark_token, token_and, tokens_in, placed_tokens, tokens_of, tokens, spelled, pairs}
+
+mark_some : (o : Option Token) (t : Token) → 0 < (unwrap_or {T = Token × ℕ} (option_map (λ (t : Token). (t, 2)) o) (t, 1)).1
+mark_some None t = omega arith
+mark_some (Some u) t = omega arith
+
+first_some : (t u : Bool) (w n : Token) (i j : ℕ) (m : Token × ℕ) → 0 < m.1 → 0 < (if t then (w, cond (t || u) (1 + i) 0) else (if u then (n, cond u (1 + j) 0) else m)).1
+first_some true u w n i j m h = omega arith
+first_some false true w n i j m h = omega arith
+first_some false false w n i j m h = h
+
+pub some_bytes : (b : ℕ) (rest : List ℕ) → 0 < (token_at (b ∷ rest)).1
+some_bytes b rest = first_some (is_letter b) (is_digit b) _ _ _ _ (mark_token (b ∷ rest)) (mark_some (spelled pairs (take 2 (b ∷ rest))) _)
+
+gap_case : (s t : Bool) (b : ℕ) (rest x y : List ℕ) → length x ≤ length rest → length y ≤ length rest → length (if s then x else (if t then y else b ∷ rest)) ≤ suc (length rest)
+gap_case true t b rest x y h k = omega arith
+gap_case false true b rest x y h k = omega arith
+gap_case false false b rest x y h k = omega arith
+
+pub length-after_gap : (comment : Bool) (text : List ℕ) → length (after_gap comment text) ≤ length text
+length-after_gap comment [] = omega arith
+length-after_gap true (b ∷ rest) = omega (arith, length-after_gap (not (b == 10)) rest)
+length-after_gap false (b ∷ rest) =
+    gap_case (is_white b) (b == 47 && begins_with 47 rest) b rest (after_gap false rest) (after_gap true rest) (length-after_gap false rest) (length-after_gap true rest)
+
+-- enough fuel is enough
+and_same : (f g : List ℕ → List Placed) (text : List ℕ) → ((rest : List ℕ) → length rest < length text → f rest ≡ g rest) → token_and f text ≡ token_and g text
+and_same f g [] h = refl
+and_same f g (b ∷ rest) h =
+    let some = some_bytes b rest in
+    ap (λ ts. record { token = (token_at (b ∷ rest)).0; from = b ∷ rest } ∷ ts) (h (drop (token_at (b ∷ rest)).1 (b ∷ rest)) (omega (arith, length-drop (token_at (b ∷ rest)).1 (b ∷ rest))))
+
+pub tokens_in-enough : (n m : ℕ) (text : List ℕ) → length text ≤ n → length text ≤ m → tokens_in n text ≡ tokens_in m text
+tokens_in-enough zero zero text h k = refl
+tokens_in-enough zero (suc m) [] h k = refl
+tokens_in-enough zero (suc m) (b ∷ text) h k = absurd (omega arith)
+tokens_in-enough (suc n) zero [] h k = refl
+tokens_in-enough (suc n) zero (b ∷ text) h k = absurd (omega arith)
+tokens_in-enough (suc n) (suc m) text h k =
+    let gap = length-after_gap false text in
+    and_same (tokens_in n) (tokens_in m) (after_gap false text) (λ rest less. tokens_in-enough n m rest (omega arith) (omega arith))
+
+-- the first token, and the tokens behind it
+pub placed_tokens-step : (text : List ℕ) → placed_tokens text ≡ token_and placed_tokens (after_gap false text)
+unfolding placed_tokens
+placed_tokens-step [] = refl
+placed_tokens-step (b ∷ rest) =
+    let gap = length-after_gap false (b ∷ rest) in
+    and_same (tokens_in (length rest)) placed_tokens (after_gap false (b ∷ rest)) (λ back less. tokens_in-enough (length rest) (length back) back (omega arith) (omega arith))
+
+-- the tokens of a text with nothing in front, and of one with a token there
+pub tokens-none : (text : List ℕ) → after_gap false text ≡ [] → tokens text ≡ []
+unfolding tokens
+tokens-none text h = ap tokens_of (placed_tokens-step text) ∙ ap (λ t. tokens_of (token_and placed_tokens t)) h
+
+pub tokens-some : (text : List ℕ) (b : ℕ) (rest : List ℕ) → after_gap false text ≡ b ∷ rest → tokens text ≡ (token_at (b ∷ rest)).0 ∷ tokens (drop (token_at (b ∷ rest)).1 (b ∷ rest))
+unfolding tokens
+tokens-some text b rest h = ap tokens_of (placed_tokens-step text) ∙ ap (λ t. tokens_of (token_and placed_tokens t)) h
+
+-- the same for what is left behind the gap, as a list that isn't taken apart
+pub tokens-first : (text at : List ℕ) → after_gap false text ≡ at → 0 < length at → tokens text ≡ (token_at at).0 ∷ tokens (drop (token_at at).1 at)
+tokens-first text [] h k = absurd (omega arith)
+tokens-first text (b ∷ rest) h k = tokens-some text b rest h
+
+pub first_longer : (at : List ℕ) → 0 < length at → 0 < (token_at at).1
+first_longer [] h = absurd (omega arith)
+first_longer (b ∷ rest) h = some_bytes b rest
+
+pub ruleset unrolled = (tokens-none, tokens-first, first_longer)

@@ -1,0 +1,75 @@
+-- What a reader of parts says of the text before and after it.
+use Rattle.std.specs.Prelude.{◌≡◌, ◌⊎◌, ℕ, ◌^◌, ℤ, pos, neg_ℤ, List, [], ◌∷◌, Option, Some, None, Result, Ok, Err}
+use Rattle.vmv_tree.specs.declared.name.Name.{Name}
+use Rattle.vmv_tree.specs.declared.tree.Rel.{Rel}
+use Rattle.vmv_tree.specs.Tree.{Stmt, copy, compute, call, assert, choose, repeat, Block, [], ◌∷◌, Body, Item, outside, helper, entry}
+use Rattle.vmv_text.specs.declared.token.Token.{Token}
+use Rattle.vmv_text.specs.declared.token.Token.TheVariants.{Number, Edge, VarWord, ReturnWord}
+use Rattle.vmv_text.specs.declared.fault.FirstFault.{FirstFault}
+use Rattle.vmv_text.specs.declared.fault.FirstFault.TheVariants.{NotBuilt, Memory}
+use Rattle.vmv_text.specs.Tokens.{tokens}
+use Rattle.vmv_text.specs.Grammar.{Takes, rel_token, IsStmt, AreStmts, IsBody, IsItem, IsProgram}
+
+-- no such part begins here
+abbrev pub NoneBegins : {X : Type 0} → (X → Takes) → List Token → Type 0
+NoneBegins {X} takes ts = (x : X) (rest : List Token) → takes x ts rest → ⊥
+
+-- a part was taken off the front of the text, or none begins there
+abbrev pub Reads : {X : Type 0} → (X → Takes) → Option X → (old new : List ℕ) → Type 0
+Reads takes (Some x) old new = takes x (tokens old) (tokens new)
+Reads takes None old new = NoneBegins takes (tokens old)
+
+-- the same where memory may run out, for a part that view shows
+abbrev pub Builds : {A X : Type 0} → (A → X) → (X → Takes) → Result A FirstFault → (old new : List ℕ) → Type 0
+Builds view takes (Ok x) old new = takes (view x) (tokens old) (tokens new)
+Builds view takes (Err NotBuilt) old new = NoneBegins takes (tokens old)
+Builds view takes (Err Memory) old new = Unit {0}
+
+-- what a literal has behind its sign
+abbrev pub IsNegative : ℤ → Takes
+IsNegative z ts rest =
+    ((n : ℕ) × (z ≡ neg_ℤ (pos n)) × (ts ≡ Number n ∷ rest)) ⊎ ((z ≡ neg_ℤ (pos (2 ^ 63))) × (ts ≡ Edge ∷ rest))
+
+abbrev pub IsRel : Rel → Takes
+IsRel rel ts rest = ts ≡ rel_token rel ∷ rest
+
+-- statements that neither branch, nor repeat, nor call
+abbrev pub IsStraight : Stmt → Type 0
+IsStraight (copy to from) = Unit {0}
+IsStraight (compute to op left right) = Unit {0}
+IsStraight (assert test) = Unit {0}
+IsStraight (call to callee args) = ⊥
+IsStraight (choose test first second) = ⊥
+IsStraight (repeat index bound most body) = ⊥
+
+abbrev pub AreStraight : Block → Type 0
+AreStraight [] = Unit {0}
+AreStraight (s ∷ block) = IsStraight s × AreStraight block
+
+abbrev pub IsStraightStmt : Stmt → Takes
+IsStraightStmt s ts rest = IsStraight s × IsStmt s ts rest
+
+-- statements up to the word `return`, and the word
+abbrev pub AreStraightStmts : Block → Takes
+AreStraightStmts block ts rest = AreStraight block × AreStmts block ts (ReturnWord ∷ rest)
+
+abbrev pub IsStraightBody : Body → Takes
+IsStraightBody body ts rest = AreStraight body.block × IsBody body ts rest
+
+abbrev pub IsStraightEntry : Item → Type 0
+IsStraightEntry (entry f params body) = AreStraight body.block
+IsStraightEntry (helper f params body) = ⊥
+IsStraightEntry (outside f arity) = ⊥
+
+abbrev pub IsStraightItem : Item → Takes
+IsStraightItem item ts rest = IsStraightEntry item × IsItem item ts rest
+
+-- exactly one item, and nothing behind it
+abbrev pub IsStraightProgram : List Item → Type 0
+IsStraightProgram [] = ⊥
+IsStraightProgram (item ∷ []) = IsStraightEntry item
+IsStraightProgram (item ∷ more ∷ items) = ⊥
+
+-- no declaration of variables begins here
+abbrev pub LacksVar : List Token → Type 0
+LacksVar ts = (rest : List Token) → ts ≡ VarWord ∷ rest → ⊥
