@@ -1,14 +1,17 @@
 -- What a reader of parts says of the text before and after it.
 use Rattle.std.specs.Prelude.{◌≡◌, ◌⊎◌, ℕ, ◌^◌, ℤ, pos, neg_ℤ, List, [], ◌∷◌, Option, Some, None, Result, Ok, Err}
 use Rattle.vmv_tree.specs.declared.name.Name.{Name}
+use Rattle.vmv_tree.specs.declared.tree.Op.{Op}
+use Rattle.vmv_tree.specs.declared.tree.Operand.{Operand}
 use Rattle.vmv_tree.specs.declared.tree.Rel.{Rel}
+use Rattle.vmv_tree.specs.declared.tree.Param.{Param}
 use Rattle.vmv_tree.specs.Tree.{Stmt, copy, compute, call, assert, choose, repeat, Block, [], ◌∷◌, Body, Item, outside, helper, entry}
 use Rattle.vmv_text.specs.declared.token.Token.{Token}
-use Rattle.vmv_text.specs.declared.token.Token.TheVariants.{Number, Edge, VarWord, ReturnWord}
+use Rattle.vmv_text.specs.declared.token.Token.TheVariants.{Named, Number, Edge, AssertWord, VarWord, ReturnWord, Semicolon, Comma, CloseParen}
 use Rattle.vmv_text.specs.declared.fault.FirstFault.{FirstFault}
 use Rattle.vmv_text.specs.declared.fault.FirstFault.TheVariants.{NotBuilt, Memory}
 use Rattle.vmv_text.specs.Tokens.{tokens}
-use Rattle.vmv_text.specs.Grammar.{Takes, rel_token, IsStmt, AreStmts, IsBody, IsItem, IsProgram}
+use Rattle.vmv_text.specs.Grammar.{Takes, op_token, rel_token, IsOperand, IsStmt, AreStmts, Commas, AnyCommas, IsParam, IsVars, IsBody, IsItem, IsProgram}
 
 -- no such part begins here
 abbrev pub NoneBegins : {X : Type 0} → (X → Takes) → List Token → Type 0
@@ -24,6 +27,15 @@ abbrev pub Builds : {A X : Type 0} → (A → X) → (X → Takes) → Result A 
 Builds view takes (Ok x) old new = takes (view x) (tokens old) (tokens new)
 Builds view takes (Err NotBuilt) old new = NoneBegins takes (tokens old)
 Builds view takes (Err Memory) old new = Unit {0}
+
+-- this one token
+abbrev pub IsToken : Token → Unit {0} → Takes
+IsToken token one ts rest = ts ≡ token ∷ rest
+
+-- what an assignment has behind its first operand: the end, or an operation and another operand
+abbrev pub IsTail : Option (Op × Operand) → Takes
+IsTail None ts rest = ts ≡ Semicolon ∷ rest
+IsTail (Some (op, right)) ts rest = (mid : List Token) × (ts ≡ op_token op ∷ mid) × IsOperand right mid (Semicolon ∷ rest)
 
 -- what a literal has behind its sign
 abbrev pub IsNegative : ℤ → Takes
@@ -49,6 +61,13 @@ AreStraight (s ∷ block) = IsStraight s × AreStraight block
 abbrev pub IsStraightStmt : Stmt → Takes
 IsStraightStmt s ts rest = IsStraight s × IsStmt s ts rest
 
+-- an assignment of this name from behind the name on; an assert from behind its word on
+abbrev pub IsAssignment : Name → Stmt → Takes
+IsAssignment to s ts rest = IsStraight s × IsStmt s (Named to ∷ ts) rest
+
+abbrev pub IsAssertion : Stmt → Takes
+IsAssertion s ts rest = IsStraight s × IsStmt s (AssertWord ∷ ts) rest
+
 -- statements up to the word `return`, and the word
 abbrev pub AreStraightStmts : Block → Takes
 AreStraightStmts block ts rest = AreStraight block × AreStmts block ts (ReturnWord ∷ rest)
@@ -73,3 +92,22 @@ IsStraightProgram (item ∷ more ∷ items) = ⊥
 -- no declaration of variables begins here
 abbrev pub LacksVar : List Token → Type 0
 LacksVar ts = (rest : List Token) → ts ≡ VarWord ∷ rest → ⊥
+
+abbrev pub NoComma : List Token → Type 0
+NoComma ts = (rest : List Token) → ts ≡ Comma ∷ rest → ⊥
+
+-- a list with commas was taken, as long as it goes on, or none begins here that ends before no comma
+abbrev pub BuildsCommas : {X : Type 0} → (X → Takes) → Result (List X) FirstFault → (old new : List ℕ) → Type 0
+BuildsCommas takes (Ok xs) old new = Commas takes xs (tokens old) (tokens new) × NoComma (tokens new)
+BuildsCommas {X} takes (Err NotBuilt) old new = (xs : List X) (rest : List Token) → NoComma rest → Commas takes xs (tokens old) rest → ⊥
+BuildsCommas takes (Err Memory) old new = Unit {0}
+
+-- the variables of a body were taken, or there are none that end where no other declaration begins
+abbrev pub BuildsVars : Result (List Name) FirstFault → (old new : List ℕ) → Type 0
+BuildsVars (Ok vars) old new = IsVars vars (tokens old) (tokens new)
+BuildsVars (Err NotBuilt) old new = (vars : List Name) (rest : List Token) → LacksVar rest → IsVars vars (tokens old) rest → ⊥
+BuildsVars (Err Memory) old new = Unit {0}
+
+-- parameters, and the parenthesis behind them
+abbrev pub AreParams : List Param → Takes
+AreParams params ts rest = AnyCommas IsParam params ts (CloseParen ∷ rest)

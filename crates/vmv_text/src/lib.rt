@@ -4,7 +4,10 @@
 mod cursor;
 mod fault;
 mod lexer;
+mod lists;
 mod operand;
+mod statement;
+mod symbols;
 mod token;
 
 pub use fault::FirstFault;
