@@ -1,11 +1,13 @@
 -- Parts one after another: where none begins.
-use Rattle.std.proofs.Common.{◌≡◌, List, [], ◌∷◌, Option, Some, None, refl, sym, ◌∙◌, ap, subst}
+use Rattle.std.proofs.Common.{◌≡◌, ℤ, List, [], ◌∷◌, Option, Some, None, refl, sym, ◌∙◌, ap, subst}
 use Rattle.vmv_tree.specs.declared.name.Name.{Name}
 use Rattle.vmv_tree.specs.declared.tree.Operand.{Operand}
 use Rattle.vmv_tree.specs.declared.tree.Op.{Op}
 use Rattle.vmv_tree.specs.declared.tree.Rel.{Rel}
 use Rattle.vmv_tree.specs.declared.tree.Test.{Test}
 use Rattle.vmv_tree.specs.declared.tree.Param.{Param}
+use Rattle.vmv_tree.specs.declared.tree.Stmt.{Set, Arith, Assert}
+use Rattle.vmv_tree.specs.View.{stmt_of, stmt_of-set, stmt_of-arith, stmt_of-assert}
 use Rattle.vmv_tree.specs.Tree.{Stmt, copy, compute, call, assert, choose, repeat}
 use Rattle.vmv_text.specs.declared.token.Token.{Token}
 use Rattle.vmv_text.specs.declared.token.Token.TheVariants.{Named, AssertWord, Equals, Semicolon, Colon, Dots}
@@ -95,3 +97,26 @@ no_straight_end ts e (assert test) rest h = cc (e, h.1.1)
 no_straight_end ts e (call x f args) rest h = absurd h.0
 no_straight_end ts e (choose test first second) rest h = absurd h.0
 no_straight_end ts e (repeat index bound most body) rest h = absurd h.0
+
+-- the statements that are made
+pub made-copy : (to : Name) (from : Operand) (tail : Option (Op × Operand)) (ts mid back rest : List Token) → tail ≡ None → ts ≡ Equals ∷ mid → IsOperand from mid back → IsTail tail back rest → IsAssignment to (stmt_of (Set to from)) ts rest
+unfolding IsStmt
+made-copy to from tail ts mid back rest none e h k =
+    let semi : back ≡ Semicolon ∷ rest = subst (λ t. IsTail t back rest) none k in
+    rw stmt_of-set (tt, (mid, ap (λ t. Named to ∷ t) e, subst (λ b. IsOperand from mid b) semi h))
+
+pub made-compute : (to : Name) (left right : Operand) (op : Op) (tail : Option (Op × Operand)) (ts mid back rest : List Token) → tail ≡ Some (op, right) → ts ≡ Equals ∷ mid → IsOperand left mid back → IsTail tail back rest → IsAssignment to (stmt_of (Arith to op left right)) ts rest
+unfolding IsStmt
+made-compute to left right op tail ts mid back rest some e h k =
+    let more = subst (λ t. IsTail t back rest) some k in
+    rw stmt_of-arith (tt, (mid, more.0, ap (λ t. Named to ∷ t) e, subst (λ b. IsOperand left mid b) more.1 h, more.2))
+
+pub made-assertion : (test : Test) (ts back rest : List Token) → IsTest test ts back → back ≡ Semicolon ∷ rest → IsAssertion (stmt_of (Assert test)) ts rest
+unfolding IsStmt
+made-assertion test ts back rest h e =
+    rw stmt_of-assert (tt, (ts, refl, subst (λ b. IsTest test ts b) e h))
+
+pub made-param : (name : Name) (lo lo' hi hi' : ℤ) (ts a b c d rest : List Token) → lo' ≡ lo → hi' ≡ hi → ts ≡ Named name ∷ a → a ≡ Colon ∷ b → IsLit lo b c → c ≡ Dots ∷ d → IsLit hi d rest
+    → IsParam (record { name = name; lo = lo'; hi = hi' }) ts rest
+made-param name lo lo' hi hi' ts a b c d rest same_lo same_hi e f h g k =
+    (b, d, e ∙ ap (λ t. Named name ∷ t) f, rw same_lo (subst (λ t. IsLit lo b t) g h), rw same_hi k)

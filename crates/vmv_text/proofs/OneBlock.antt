@@ -13,6 +13,7 @@ use Rattle.vmv_tree.specs.Tree.{Stmt, copy, compute, call, assert, choose, repea
 use Rattle.vmv_text.specs.declared.token.Token.{Token}
 use Rattle.vmv_text.specs.declared.token.Token.TheVariants.{Named, Number, IfWord, ElseWord, RepeatWord, CapWord, AssertWord, OpenParen, CloseBrace, ReturnWord, CloseParen, Semicolon, Comma, Dots}
 use Rattle.vmv_text.specs.Grammar.{Takes, IsLit, IsName, IsOperand, IsTest, IsParam, Commas, AnyCommas, IsStmt, AreStmts, Braces, op_token, rel_token}
+use Rattle.vmv_text.specs.Parts.{Lacks}
 
 pub lit_once : (z w : ℤ) (ts r q : List Token) → IsLit z ts r → IsLit w ts q → (z ≡ w) × (r ≡ q)
 lit_once z w ts r q (inl (n, a, b)) (inl (m, c, d)) = (cc (a, b, c, d), cc (b, d))
@@ -69,15 +70,12 @@ test_once a b ts r q h k =
     let e = operand_once a.right b.right k.0 r q (subst (λ m. IsOperand a.right m r) mid h.2) k.2 in
     (λ i. record { left = l.0 i; rel = rel i; right = e.0 i }, e.1)
 
-abbrev pub NoComma : List Token → Type 0
-NoComma ts = (rest : List Token) → ts ≡ Comma ∷ rest → ⊥
-
 abbrev pub TakesOnce : {A : Type 0} → (A → Takes) → Type 0
 TakesOnce {A} one = (x y : A) (ts r q : List Token) → one x ts r → one y ts q → (x ≡ y) × (r ≡ q)
 
 -- what one takes is taken once, so a list of it is, up to a token that is no comma
 pub commas_once : {A : Type 0} (one : A → Takes) → TakesOnce one
-    → (xs ys : List A) (ts r q : List Token) → NoComma r → NoComma q → Commas one xs ts r → Commas one ys ts q → (xs ≡ ys) × (r ≡ q)
+    → (xs ys : List A) (ts r q : List Token) → Lacks Comma r → Lacks Comma q → Commas one xs ts r → Commas one ys ts q → (xs ≡ ys) × (r ≡ q)
 commas_once one f [] ys ts r q n m h k = absurd h
 commas_once one f (x ∷ []) [] ts r q n m h k = absurd k
 commas_once one f (x ∷ []) (y ∷ []) ts r q n m h k =
@@ -92,10 +90,10 @@ commas_once one f (x ∷ w ∷ xs) (y ∷ z ∷ ys) ts r q n m h k =
     let rest = commas_once one f (w ∷ xs) (z ∷ ys) k.0 r q n m (subst (λ t. Commas one (w ∷ xs) t r) mid h.2) k.2 in
     (λ i. e.0 i ∷ rest.0 i, rest.1)
 
-pub close-no_comma : (r : List Token) → NoComma (CloseParen ∷ r)
+pub close-no_comma : (r : List Token) → Lacks Comma (CloseParen ∷ r)
 close-no_comma r x h = cc h
 
-pub semicolon-no_comma : (r : List Token) → NoComma (Semicolon ∷ r)
+pub semicolon-no_comma : (r : List Token) → Lacks Comma (Semicolon ∷ r)
 semicolon-no_comma r x h = cc h
 
 -- what never begins with a closing parenthesis
@@ -216,6 +214,23 @@ op_paren Mul x y h = cc h
 op_paren Div x y h = cc h
 op_paren Rem x y h = cc h
 
+-- behind a choice stands no `else`
+abbrev pub NoElseAfter : Stmt → List Token → Type 0
+NoElseAfter (copy to from) r = Unit {0}
+NoElseAfter (compute to op left right) r = Unit {0}
+NoElseAfter (call to callee args) r = Unit {0}
+NoElseAfter (assert test) r = Unit {0}
+NoElseAfter (choose test first second) r = NoElse r
+NoElseAfter (repeat index bound most body) r = Unit {0}
+
+no_else_after : (s : Stmt) (r : List Token) → NoElse r → NoElseAfter s r
+no_else_after (copy to from) r f = tt
+no_else_after (compute to op left right) r f = tt
+no_else_after (call to callee args) r f = tt
+no_else_after (assert test) r f = tt
+no_else_after (choose test first second) r f = f
+no_else_after (repeat index bound most body) r f = tt
+
 -- the same tokens in braces
 unfoldable pub BlockOnce : Block → Block → Type 0
 BlockOnce b c = (t u : Token) (ts r q : List Token) → Ends_at t → Ends_at u → AreStmts b ts (t ∷ r) → AreStmts c ts (u ∷ q) → (b ≡ c) × (◌≡◌ {A = List Token} (t ∷ r) (u ∷ q))
@@ -241,7 +256,7 @@ else_once b c once back r q f g (inr h) (inr k) =
 mutual
   unfolding BlockOnce IsStmt AreStmts
 
-  pub stmt_once : (s s' : Stmt) (ts r q : List Token) → IsStmt s ts r → IsStmt s' ts q → NoElse r → NoElse q → (s ≡ s') × (r ≡ q)
+  pub stmt_once : (s s' : Stmt) (ts r q : List Token) → IsStmt s ts r → IsStmt s' ts q → NoElseAfter s r → NoElseAfter s' q → (s ≡ s') × (r ≡ q)
   stmt_once (copy to from) (copy to' from') ts r q h k f g =
       let mid : h.0 ≡ k.0 = cc (h.1, k.1) in
       let x : to ≡ to' = cc (h.1, k.1) in
@@ -306,6 +321,6 @@ mutual
   block_once [] (s ∷ c) t u ts r q e d h k = absurd (no_stmt s t ts k.0 r e k.1 h)
   block_once (s ∷ b) [] t u ts r q e d h k = absurd (no_stmt s u ts h.0 q d h.1 k)
   block_once (s ∷ b) (s' ∷ c) t u ts r q e d h k =
-      let one = stmt_once s s' ts h.0 k.0 h.1 k.1 (block_no_else b t h.0 r e h.2) (block_no_else c u k.0 q d k.2) in
+      let one = stmt_once s s' ts h.0 k.0 h.1 k.1 (no_else_after s h.0 (block_no_else b t h.0 r e h.2)) (no_else_after s' k.0 (block_no_else c u k.0 q d k.2)) in
       let rest = block_once b c t u k.0 r q e d (subst (λ m. AreStmts b m (t ∷ r)) one.1 h.2) k.2 in
       (λ i. one.0 i ∷ rest.0 i, rest.1)

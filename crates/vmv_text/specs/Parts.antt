@@ -1,5 +1,5 @@
 -- What a reader of parts says of the text before and after it.
-use Rattle.std.specs.Prelude.{◌≡◌, ◌⊎◌, ℕ, ◌^◌, ℤ, pos, neg_ℤ, List, [], ◌∷◌, Option, Some, None, Result, Ok, Err}
+use Rattle.std.specs.Prelude.{◌≡◌, ◌⊎◌, ℕ, ◌^◌, ℤ, Bool, true, false, pos, neg_ℤ, List, [], ◌∷◌, Option, Some, None, Result, Ok, Err}
 use Rattle.vmv_tree.specs.declared.name.Name.{Name}
 use Rattle.vmv_tree.specs.declared.tree.Op.{Op}
 use Rattle.vmv_tree.specs.declared.tree.Operand.{Operand}
@@ -21,6 +21,15 @@ NoneBegins {X} takes ts = (x : X) (rest : List Token) → takes x ts rest → �
 abbrev pub Reads : {X : Type 0} → (X → Takes) → Option X → (old new : List ℕ) → Type 0
 Reads takes (Some x) old new = takes x (tokens old) (tokens new)
 Reads takes None old new = NoneBegins takes (tokens old)
+
+-- this token doesn't stand first
+abbrev pub Lacks : Token → List Token → Type 0
+Lacks token ts = (rest : List Token) → ts ≡ token ∷ rest → ⊥
+
+-- whether this token was taken off the front of the text
+abbrev pub Tests : Token → Bool → (old new : List ℕ) → Type 0
+Tests token true old new = tokens old ≡ token ∷ tokens new
+Tests token false old new = Lacks token (tokens old) × (new ≡ old)
 
 -- the same where memory may run out, for a part that view shows
 abbrev pub Builds : {A X : Type 0} → (A → X) → (X → Takes) → Result A FirstFault → (old new : List ℕ) → Type 0
@@ -89,23 +98,17 @@ IsStraightProgram [] = ⊥
 IsStraightProgram (item ∷ []) = IsStraightEntry item
 IsStraightProgram (item ∷ more ∷ items) = ⊥
 
--- no declaration of variables begins here
-abbrev pub LacksVar : List Token → Type 0
-LacksVar ts = (rest : List Token) → ts ≡ VarWord ∷ rest → ⊥
-
-abbrev pub NoComma : List Token → Type 0
-NoComma ts = (rest : List Token) → ts ≡ Comma ∷ rest → ⊥
 
 -- a list with commas was taken, as long as it goes on, or none begins here that ends before no comma
 abbrev pub BuildsCommas : {X : Type 0} → (X → Takes) → Result (List X) FirstFault → (old new : List ℕ) → Type 0
-BuildsCommas takes (Ok xs) old new = Commas takes xs (tokens old) (tokens new) × NoComma (tokens new)
-BuildsCommas {X} takes (Err NotBuilt) old new = (xs : List X) (rest : List Token) → NoComma rest → Commas takes xs (tokens old) rest → ⊥
+BuildsCommas takes (Ok xs) old new = Commas takes xs (tokens old) (tokens new) × Lacks Comma (tokens new)
+BuildsCommas {X} takes (Err NotBuilt) old new = (xs : List X) (rest : List Token) → Lacks Comma rest → Commas takes xs (tokens old) rest → ⊥
 BuildsCommas takes (Err Memory) old new = Unit {0}
 
 -- the variables of a body were taken, or there are none that end where no other declaration begins
 abbrev pub BuildsVars : Result (List Name) FirstFault → (old new : List ℕ) → Type 0
 BuildsVars (Ok vars) old new = IsVars vars (tokens old) (tokens new)
-BuildsVars (Err NotBuilt) old new = (vars : List Name) (rest : List Token) → LacksVar rest → IsVars vars (tokens old) rest → ⊥
+BuildsVars (Err NotBuilt) old new = (vars : List Name) (rest : List Token) → Lacks VarWord rest → IsVars vars (tokens old) rest → ⊥
 BuildsVars (Err Memory) old new = Unit {0}
 
 -- parameters, and the parenthesis behind them

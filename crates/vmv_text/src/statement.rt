@@ -72,8 +72,7 @@ impl Cursor<'_> {
     {
         let mut block = Block::new(alloc);
         loop {
-            if let Some(Token::ReturnWord) = self.peek() {
-                let _return = self.next();
+            if self.has_return() {
                 return Ok(block);
             }
             let Some(stmt) = self.statement() else {

@@ -1,6 +1,7 @@
 ghost use Rattle.std.specs.Prelude.{◌≡◌, ◌<◌, length, OnSome};
-ghost use Rattle.vmv_text.specs.declared.token.Token.TheVariants.{Equals, Semicolon, Colon, Dots, OpenParen, CloseParen, OpenBrace, CloseBrace, EntryWord};
-ghost use Rattle.vmv_text.specs.Parts.{Reads, IsToken};
+ghost use Rattle.std.specs.Bool.{OnTrue};
+ghost use Rattle.vmv_text.specs.declared.token.Token.TheVariants.{Comma, VarWord, ReturnWord, Equals, Semicolon, Colon, Dots, OpenParen, CloseParen, OpenBrace, CloseBrace, EntryWord};
+ghost use Rattle.vmv_text.specs.Parts.{Reads, Tests, IsToken};
 
 use crate::cursor::Cursor;
 use crate::token::Token;
@@ -93,6 +94,58 @@ impl Cursor<'_> {
         match self.next()? {
             Token::EntryWord => Some(()),
             _ => None,
+        }
+    }
+
+    /// Takes this token, if it stands first.
+    pub(crate) fn has_comma(&mut self) -> bool
+        ensures tests { Tests Comma result self.old self.new }
+        ensures shorter { OnTrue result (length self.new < length self.old) }
+    {
+        if let Some(Token::Comma) = self.peek() {
+            let _token = self.next();
+            true
+        } else {
+            false
+        }
+    }
+
+    /// Takes this token, if it stands first.
+    pub(crate) fn has_var(&mut self) -> bool
+        ensures tests { Tests VarWord result self.old self.new }
+        ensures shorter { OnTrue result (length self.new < length self.old) }
+    {
+        if let Some(Token::VarWord) = self.peek() {
+            let _token = self.next();
+            true
+        } else {
+            false
+        }
+    }
+
+    /// Takes this token, if it stands first.
+    pub(crate) fn has_return(&mut self) -> bool
+        ensures tests { Tests ReturnWord result self.old self.new }
+        ensures shorter { OnTrue result (length self.new < length self.old) }
+    {
+        if let Some(Token::ReturnWord) = self.peek() {
+            let _token = self.next();
+            true
+        } else {
+            false
+        }
+    }
+
+    /// Takes this token, if it stands first.
+    pub(crate) fn has_close(&mut self) -> bool
+        ensures tests { Tests CloseParen result self.old self.new }
+        ensures shorter { OnTrue result (length self.new < length self.old) }
+    {
+        if let Some(Token::CloseParen) = self.peek() {
+            let _token = self.next();
+            true
+        } else {
+            false
         }
     }
 }
