@@ -5,6 +5,7 @@ use Rattle.vmv_tree.specs.Tree.{Block, [], ◌∷◌, Body, Item, outside, helpe
 use Rattle.vmv_text.specs.declared.token.Token.{Token}
 use Rattle.vmv_text.specs.declared.token.Token.TheVariants.{VarWord, ReturnWord, OpenBrace, CloseBrace, CloseParen, Semicolon, OutsideWord, HelperWord, EntryWord}
 use Rattle.vmv_text.specs.Grammar.{Takes, IsName, IsOperand, IsParam, Commas, AnyCommas, AreStmts, Braces, IsVars, IsInBody, IsBody, IsItem, IsProgram, IsText}
+use Rattle.vmv_text.specs.Parts.{Lacks, EndsVars}
 use Rattle.vmv_text.specs.Tokens.{tokens}
 use Rattle.vmv_text.proofs.OneBlock.{operand_once, name_once, name_close, param_once, param_close, commas_once, any_commas_once, semicolon-no_comma, kind_at, kind_of, kind-first, none, kind-some, block_once, BlockOnce}
 
@@ -14,7 +15,11 @@ unfolding AreStmts
 stmts_no_var [] ts r q h k = cc (h, k)
 stmts_no_var (s ∷ b) ts r q h k = kind-some s (sym (kind-first s ts h.0 h.1) ∙ ap kind_at k)
 
-pub vars_once : (xs ys : List Name) (ts r q : List Token) → ((x : List Token) → r ≡ VarWord ∷ x → ⊥) → ((x : List Token) → q ≡ VarWord ∷ x → ⊥) → IsVars xs ts r → IsVars ys ts q → (xs ≡ ys) × (r ≡ q)
+pub stmts-end_vars : (xs : List Name) (b : Block) (ts r : List Token) → AreStmts b ts (ReturnWord ∷ r) → EndsVars xs ts
+stmts-end_vars [] b ts r h = λ x k. stmts_no_var b ts r x h k
+stmts-end_vars (y ∷ ys) b ts r h = tt
+
+pub vars_once : (xs ys : List Name) (ts r q : List Token) → EndsVars xs r → EndsVars ys q → IsVars xs ts r → IsVars ys ts q → (xs ≡ ys) × (r ≡ q)
 vars_once [] [] ts r q f g h k = (refl, sym h ∙ k)
 vars_once [] (y ∷ ys) ts r q f g h k = absurd (f k.0 (sym h ∙ k.1))
 vars_once (x ∷ xs) [] ts r q f g h k = absurd (g h.0 (sym k ∙ h.1))
@@ -26,7 +31,7 @@ vars_once (x ∷ xs) (y ∷ ys) ts r q f g h k =
 pub in_body_once : (b c : Body) (ts r q : List Token) → IsInBody b ts r → IsInBody c ts q → (b ≡ c) × (r ≡ q)
 unfolding IsInBody BlockOnce
 in_body_once b c ts r q h k =
-    let v = vars_once b.vars c.vars ts h.0 k.0 (λ x. stmts_no_var b.block h.0 h.1 x h.3) (λ x. stmts_no_var c.block k.0 k.1 x k.3) h.2 k.2 in
+    let v = vars_once b.vars c.vars ts h.0 k.0 (stmts-end_vars b.vars b.block h.0 h.1 h.3) (stmts-end_vars c.vars c.block k.0 k.1 k.3) h.2 k.2 in
     let s = block_once b.block c.block ReturnWord ReturnWord k.0 h.1 k.1 (inr refl) (inr refl) (subst (λ m. AreStmts b.block m (ReturnWord ∷ h.1)) v.1 h.3) k.3 in
     let last : h.1 ≡ k.1 = cc s.1 in
     let o = operand_once b.output c.output k.1 _ _ (subst (λ m. IsOperand b.output m (Semicolon ∷ r)) last h.4) k.4 in

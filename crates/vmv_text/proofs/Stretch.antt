@@ -1,12 +1,13 @@
 -- Straight statements, read one after another up to the word `return`.
-use Rattle.std.proofs.Common.{◌≡◌, List, [], ◌∷◌, ◌++◌, refl, sym, ◌∙◌, ap, subst, inr}
+use Rattle.std.proofs.Common.{◌≡◌, ℕ, false, List, [], ◌∷◌, ◌++◌, refl, sym, ◌∙◌, ap, subst, inr}
 use Rattle.vmv_tree.specs.declared.tree.Stmt.{Stmt as CodeStmt}
 use Rattle.vmv_tree.specs.Tree.{Stmt, copy, compute, call, assert, choose, repeat, Block, [], ◌∷◌}
 use Rattle.vmv_tree.specs.View.{stmt_of, block_of}
 use Rattle.vmv_text.specs.declared.token.Token.{Token}
 use Rattle.vmv_text.specs.declared.token.Token.TheVariants.{ReturnWord}
+use Rattle.vmv_text.specs.Tokens.{tokens}
 use Rattle.vmv_text.specs.Grammar.{Takes, IsStmt, AreStmts}
-use Rattle.vmv_text.specs.Parts.{NoneBegins, IsStraight, AreStraight, IsStraightStmt, AreStraightStmts}
+use Rattle.vmv_text.specs.Parts.{NoneBegins, Tests, IsStraight, AreStraight, IsStraightStmt, AreStraightStmts}
 use Rattle.vmv_text.proofs.OneBlock.{stmt_once, no_stmt, NoElseAfter}
 
 -- a block with one more statement behind it
@@ -58,13 +59,15 @@ past t now mid rest h (s ∷ c) k =
     let e = straight_once s t now k.1.0 mid (k.0.0, k.1.1) h in
     (c, (k.0.1, subst (λ m. AreStmts c m (ReturnWord ∷ rest)) e.1 k.1.2))
 
-pub along_more : (start : List Token) (xs : List CodeStmt) (s : CodeStmt) (now mid : List Token) → Along start (block_of xs) now → IsStraightStmt (stmt_of s) now mid → Along start (block_of (xs ++ s ∷ [])) mid
-along_more start xs s now mid a h =
+-- one more statement, where `return` doesn't stand
+pub along_more : (start : List Token) (xs : List CodeStmt) (s : CodeStmt) (now mid new : List ℕ) → Along start (block_of xs) (tokens now) → Tests ReturnWord false now mid → IsStraightStmt (stmt_of s) (tokens mid) (tokens new) → Along start (block_of (xs ++ s ∷ [])) (tokens new)
+along_more start xs s now mid new a same k =
+    let h : IsStraightStmt (stmt_of s) (tokens now) (tokens new) = subst (λ t. IsStraightStmt (stmt_of s) (tokens t) (tokens new)) same.1 k in
     rw block_of-push
     (record {
       straight = with-straight (block_of xs) (stmt_of s) a.straight h.0;
-      so_far = with-stmts (block_of xs) (stmt_of s) start now mid a.so_far h.1;
-      onward = λ b rest k. let z = a.onward b rest k in past (stmt_of s) now mid rest h z.0 z.1;
+      so_far = with-stmts (block_of xs) (stmt_of s) start (tokens now) (tokens new) a.so_far h.1;
+      onward = λ b rest k. let z = a.onward b rest k in past (stmt_of s) (tokens now) (tokens new) rest h z.0 z.1;
     })
 
 -- at `return`
@@ -72,10 +75,10 @@ pub along_end : (start : List Token) (block : Block) (now rest : List Token) →
 along_end start block now rest a e = (a.straight, subst (λ t. AreStmts block start t) e a.so_far)
 
 -- where neither `return` nor a straight statement begins
-pub along_none : (start : List Token) (block : Block) (now : List Token) → Along start block now → ((rest : List Token) → now ≡ ReturnWord ∷ rest → ⊥) → NoneBegins IsStraightStmt now → NoneBegins AreStraightStmts start
+pub along_none : (start : List Token) (block : Block) (now mid : List ℕ) → Along start block (tokens now) → Tests ReturnWord false now mid → NoneBegins IsStraightStmt (tokens mid) → NoneBegins AreStraightStmts start
 unfolding AreStmts
-along_none start block now a no_return none b rest h = let z = a.onward b rest h in no_block z.0 z.1
+along_none start block now mid a same none b rest h = let z = a.onward b rest h in no_block z.0 z.1
   where
-    no_block : (c : Block) → AreStraightStmts c now rest → ⊥
-    no_block [] k = no_return rest k.1
-    no_block (s ∷ c) k = none s k.1.0 (k.0.0, k.1.1)
+    no_block : (c : Block) → AreStraightStmts c (tokens now) rest → ⊥
+    no_block [] k = same.0 rest k.1
+    no_block (s ∷ c) k = none s k.1.0 (subst (λ t. IsStraightStmt s (tokens t) k.1.0) (sym same.1) (k.0.0, k.1.1))

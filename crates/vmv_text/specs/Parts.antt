@@ -7,7 +7,7 @@ use Rattle.vmv_tree.specs.declared.tree.Rel.{Rel}
 use Rattle.vmv_tree.specs.declared.tree.Param.{Param}
 use Rattle.vmv_tree.specs.Tree.{Stmt, copy, compute, call, assert, choose, repeat, Block, [], ◌∷◌, Body, Item, outside, helper, entry}
 use Rattle.vmv_text.specs.declared.token.Token.{Token}
-use Rattle.vmv_text.specs.declared.token.Token.TheVariants.{Named, Number, Edge, AssertWord, VarWord, ReturnWord, Semicolon, Comma, CloseParen}
+use Rattle.vmv_text.specs.declared.token.Token.TheVariants.{Named, Number, Edge, AssertWord, VarWord, ReturnWord, Semicolon, Comma, EntryWord, OpenParen, CloseParen, CloseBrace}
 use Rattle.vmv_text.specs.declared.fault.FirstFault.{FirstFault}
 use Rattle.vmv_text.specs.declared.fault.FirstFault.TheVariants.{NotBuilt, Memory}
 use Rattle.vmv_text.specs.Tokens.{tokens}
@@ -81,8 +81,16 @@ IsAssertion s ts rest = IsStraight s × IsStmt s (AssertWord ∷ ts) rest
 abbrev pub AreStraightStmts : Block → Takes
 AreStraightStmts block ts rest = AreStraight block × AreStmts block ts (ReturnWord ∷ rest)
 
+-- a returned operand, and the end of its body
+abbrev pub IsBodyEnd : Operand → Takes
+IsBodyEnd output ts rest = IsOperand output ts (Semicolon ∷ CloseBrace ∷ rest)
+
 abbrev pub IsStraightBody : Body → Takes
 IsStraightBody body ts rest = AreStraight body.block × IsBody body ts rest
+
+-- the front of an entry, up to its parameters
+abbrev pub IsEntryHead : Name → Takes
+IsEntryHead name ts rest = ts ≡ EntryWord ∷ Named name ∷ OpenParen ∷ rest
 
 abbrev pub IsStraightEntry : Item → Type 0
 IsStraightEntry (entry f params body) = AreStraight body.block
@@ -105,9 +113,14 @@ BuildsCommas takes (Ok xs) old new = Commas takes xs (tokens old) (tokens new) �
 BuildsCommas {X} takes (Err NotBuilt) old new = (xs : List X) (rest : List Token) → Lacks Comma rest → Commas takes xs (tokens old) rest → ⊥
 BuildsCommas takes (Err Memory) old new = Unit {0}
 
+-- where there are no variables, no declaration of them begins
+abbrev pub EndsVars : List Name → List Token → Type 0
+EndsVars [] ts = Lacks VarWord ts
+EndsVars (x ∷ xs) ts = Unit {0}
+
 -- the variables of a body were taken, or there are none that end where no other declaration begins
 abbrev pub BuildsVars : Result (List Name) FirstFault → (old new : List ℕ) → Type 0
-BuildsVars (Ok vars) old new = IsVars vars (tokens old) (tokens new)
+BuildsVars (Ok vars) old new = IsVars vars (tokens old) (tokens new) × EndsVars vars (tokens new)
 BuildsVars (Err NotBuilt) old new = (vars : List Name) (rest : List Token) → Lacks VarWord rest → IsVars vars (tokens old) rest → ⊥
 BuildsVars (Err Memory) old new = Unit {0}
 

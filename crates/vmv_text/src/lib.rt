@@ -1,8 +1,11 @@
 //! The texts of programs.
 #![tactic(auto)]
 
+mod class;
 mod cursor;
+mod entry;
 mod fault;
+mod first;
 mod lexer;
 mod lists;
 mod operand;
@@ -11,4 +14,5 @@ mod symbols;
 mod token;
 
 pub use fault::FirstFault;
+pub use first::{one_program, read_first};
 pub use token::{Small, Token};

@@ -4,8 +4,8 @@ use Rattle.vmv_text.specs.Tokens.{tokens}
 use Rattle.vmv_text.proofs.Stretch.{Along}
 use Rattle.vmv_text.proofs.cursor.Cursor.statements.Given as goal
 
-abbrev pub invariant-loop-self : goal.invariant-loop-self
-invariant-loop-self l = Along (tokens l.initial.self) (block_of l.block) (tokens l.self)
+abbrev pub invariant-loop-block : goal.invariant-loop-block
+invariant-loop-block l = Along (tokens l.initial.self) (block_of l.block) (tokens l.self)
 
-abbrev pub decreases-loop-self : goal.decreases-loop-self
-decreases-loop-self l = length l.self
+abbrev pub decreases-loop-block : goal.decreases-loop-block
+decreases-loop-block l = length l.self
