@@ -1,20 +1,18 @@
 -- Bodies and entries: where none begins, and what their parts make.
-use Rattle.std.proofs.Common.{◌≡◌, ℕ, List, [], ◌∷◌, refl, sym, ◌∙◌, ap, subst, inr, Result, Ok, Err}
+use Rattle.std.proofs.Common.{◌≡◌, ℕ, List, ◌∷◌, refl, sym, subst, inr, Ok, Err}
 use Rattle.vmv_tree.specs.declared.name.Name.{Name}
 use Rattle.vmv_tree.specs.declared.tree.Operand.{Operand}
 use Rattle.vmv_tree.specs.declared.tree.Param.{Param}
-use Rattle.vmv_tree.specs.declared.tree.Stmt.{Stmt as CodeStmt}
 use Rattle.vmv_tree.specs.declared.tree.Body.{Body as CodeBody}
-use Rattle.vmv_tree.specs.declared.tree.Item.{Item as CodeItem}
-use Rattle.vmv_tree.specs.Tree.{Block, Body, Item, outside, helper, entry}
+use Rattle.vmv_tree.specs.Tree.{Block, Body, outside, helper, entry}
 use Rattle.vmv_tree.specs.View.{block_of, body_of, item_of}
 use Rattle.vmv_text.specs.declared.token.Token.{Token}
-use Rattle.vmv_text.specs.declared.token.Token.TheVariants.{Named, VarWord, ReturnWord, EntryWord, OpenParen, CloseParen, OpenBrace, CloseBrace, Semicolon}
+use Rattle.vmv_text.specs.declared.token.Token.TheVariants.{Named, ReturnWord, EntryWord, OpenParen, CloseParen, OpenBrace, CloseBrace, Semicolon}
 use Rattle.vmv_text.specs.declared.fault.FirstFault.{FirstFault}
 use Rattle.vmv_text.specs.declared.fault.FirstFault.TheVariants.{NotBuilt, Memory}
 use Rattle.vmv_text.specs.Tokens.{tokens}
-use Rattle.vmv_text.specs.Grammar.{Takes, IsName, IsOperand, IsParam, AnyCommas, IsVars, AreStmts, IsInBody, IsBody, IsItem}
-use Rattle.vmv_text.specs.Parts.{NoneBegins, Lacks, Builds, BuildsVars, EndsVars, AreParams, IsToken, IsBodyEnd, IsEntryHead, AreStraight, AreStraightStmts, IsStraightBody, IsStraightEntry, IsStraightItem}
+use Rattle.vmv_text.specs.Grammar.{IsName, IsOperand, IsParam, AnyCommas, IsVars, AreStmts, IsInBody, IsBody, IsItem}
+use Rattle.vmv_text.specs.Parts.{NoneBegins, Builds, BuildsVars, EndsVars, AreParams, IsToken, IsBodyEnd, IsEntryHead, AreStraightStmts, IsStraightBody, IsStraightItem}
 use Rattle.vmv_text.proofs.OneBlock.{param_once, param_close, any_commas_once, block_once, BlockOnce}
 use Rattle.vmv_text.proofs.OneTree.{stmts_no_var, stmts-end_vars, vars_once}
 use Rattle.vmv_text.proofs.Chains.{Then}

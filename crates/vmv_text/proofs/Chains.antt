@@ -3,17 +3,15 @@ use Rattle.std.proofs.Common.{◌≡◌, ℤ, List, [], ◌∷◌, Option, Some,
 use Rattle.vmv_tree.specs.declared.name.Name.{Name}
 use Rattle.vmv_tree.specs.declared.tree.Operand.{Operand}
 use Rattle.vmv_tree.specs.declared.tree.Op.{Op}
-use Rattle.vmv_tree.specs.declared.tree.Rel.{Rel}
 use Rattle.vmv_tree.specs.declared.tree.Test.{Test}
-use Rattle.vmv_tree.specs.declared.tree.Param.{Param}
 use Rattle.vmv_tree.specs.declared.tree.Stmt.{Set, Arith, Assert}
 use Rattle.vmv_tree.specs.View.{stmt_of, stmt_of-set, stmt_of-arith, stmt_of-assert}
-use Rattle.vmv_tree.specs.Tree.{Stmt, copy, compute, call, assert, choose, repeat}
+use Rattle.vmv_tree.specs.Tree.{copy, compute, call, assert, choose, repeat}
 use Rattle.vmv_text.specs.declared.token.Token.{Token}
 use Rattle.vmv_text.specs.declared.token.Token.TheVariants.{Named, AssertWord, Equals, Semicolon, Colon, Dots}
 use Rattle.vmv_text.specs.Grammar.{Takes, IsName, IsLit, IsOperand, IsTest, IsParam, IsStmt, op_token, rel_token}
-use Rattle.vmv_text.specs.Parts.{NoneBegins, IsToken, IsRel, IsTail, IsStraight, IsStraightStmt, IsAssignment, IsAssertion}
-use Rattle.vmv_text.proofs.OneBlock.{TakesOnce, lit_once, name_once, operand_once, op_once, rel_once, op_semi, test_once}
+use Rattle.vmv_text.specs.Parts.{NoneBegins, IsToken, IsRel, IsTail, IsStraightStmt, IsAssignment, IsAssertion}
+use Rattle.vmv_text.proofs.OneBlock.{TakesOnce, rel_once, op_semi}
 
 -- a part, and then another
 abbrev pub Then : {A B : Type 0} → (A → Takes) → (B → Takes) → A × B → Takes

@@ -1,5 +1,5 @@
 -- Lists with commas, read from the front on.
-use Rattle.std.proofs.Common.{◌≡◌, ℕ, List, [], ◌∷◌, ◌++◌, refl, sym, ◌∙◌, ap, subst}
+use Rattle.std.proofs.Common.{◌≡◌, ℕ, List, [], ◌∷◌, ◌++◌, sym, ◌∙◌, subst}
 use Rattle.vmv_text.specs.declared.token.Token.{Token}
 use Rattle.vmv_text.specs.declared.token.Token.TheVariants.{Comma}
 use Rattle.vmv_text.specs.Tokens.{tokens}

@@ -1,5 +1,5 @@
 -- The lists of an entry, its body and the whole of it: where none begins.
-use Rattle.std.proofs.Common.{◌≡◌, ℕ, List, [], ◌∷◌, refl, sym, ◌∙◌, ap, subst, Result, Ok, Err}
+use Rattle.std.proofs.Common.{◌≡◌, ℕ, List, [], ◌∷◌, sym, ◌∙◌, subst, Err}
 use Rattle.vmv_tree.specs.declared.name.Name.{Name}
 use Rattle.vmv_tree.specs.declared.tree.Param.{Param}
 use Rattle.vmv_text.specs.declared.token.Token.{Token}
@@ -7,7 +7,7 @@ use Rattle.vmv_text.specs.declared.token.Token.TheVariants.{VarWord, Comma, Semi
 use Rattle.vmv_text.specs.declared.fault.FirstFault.{FirstFault}
 use Rattle.vmv_text.specs.declared.fault.FirstFault.TheVariants.{NotBuilt, Memory}
 use Rattle.vmv_text.specs.Tokens.{tokens}
-use Rattle.vmv_text.specs.Grammar.{Takes, IsName, IsParam, Commas, AnyCommas, IsVars}
+use Rattle.vmv_text.specs.Grammar.{IsName, IsParam, Commas, IsVars}
 use Rattle.vmv_text.specs.Parts.{NoneBegins, Lacks, Builds, BuildsCommas, BuildsVars, AreParams, IsToken}
 use Rattle.vmv_text.proofs.OneBlock.{name_once, param_once, commas_once, close-no_comma, semicolon-no_comma}
 

@@ -1,6 +1,5 @@
 -- A literal or an operand that begins with `-`.
-use Rattle.std.proofs.Common.{◌≡◌, inl, inr, ℕ, ℤ, List, [], ◌∷◌, Option, Some, None, ◌∙◌, ap}
-use Rattle.vmv_tree.specs.declared.tree.Operand.{Operand}
+use Rattle.std.proofs.Common.{◌≡◌, inl, inr, ℕ, ℤ, List, ◌∷◌, Option, Some, None, ◌∙◌, ap}
 use Rattle.vmv_tree.specs.declared.tree.Operand.TheVariants.{Lit, Var}
 use Rattle.vmv_text.specs.declared.token.Token.{Token}
 use Rattle.vmv_text.specs.declared.token.Token.TheVariants.{Minus}

@@ -8,7 +8,6 @@ use Rattle.vmv_tree.specs.declared.tree.Op.TheVariants.{Add, Sub, Mul, Div, Rem}
 use Rattle.vmv_tree.specs.declared.tree.Rel.{Rel}
 use Rattle.vmv_tree.specs.declared.tree.Rel.TheVariants.{Equal, Unequal, Less, AtMost, Greater, AtLeast}
 use Rattle.vmv_tree.specs.declared.tree.Test.{Test}
-use Rattle.vmv_tree.specs.declared.tree.Param.{Param}
 use Rattle.vmv_tree.specs.Tree.{Stmt, copy, compute, call, assert, choose, repeat, Block, [], ◌∷◌}
 use Rattle.vmv_text.specs.declared.token.Token.{Token}
 use Rattle.vmv_text.specs.declared.token.Token.TheVariants.{Named, Number, IfWord, ElseWord, RepeatWord, CapWord, AssertWord, OpenParen, CloseBrace, ReturnWord, CloseParen, Semicolon, Comma, Dots}

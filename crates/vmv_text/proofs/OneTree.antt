@@ -1,13 +1,13 @@
 -- A text is that of one program at most.
-use Rattle.std.proofs.Common.{◌≡◌, ◌⊎◌, inl, inr, ℕ, List, [], ◌∷◌, refl, sym, ◌∙◌, ap, subst}
+use Rattle.std.proofs.Common.{◌≡◌, inr, ℕ, List, [], ◌∷◌, refl, sym, ◌∙◌, ap, subst}
 use Rattle.vmv_tree.specs.declared.name.Name.{Name}
 use Rattle.vmv_tree.specs.Tree.{Block, [], ◌∷◌, Body, Item, outside, helper, entry}
 use Rattle.vmv_text.specs.declared.token.Token.{Token}
-use Rattle.vmv_text.specs.declared.token.Token.TheVariants.{VarWord, ReturnWord, OpenBrace, CloseBrace, CloseParen, Semicolon, OutsideWord, HelperWord, EntryWord}
-use Rattle.vmv_text.specs.Grammar.{Takes, IsName, IsOperand, IsParam, Commas, AnyCommas, AreStmts, Braces, IsVars, IsInBody, IsBody, IsItem, IsProgram, IsText}
-use Rattle.vmv_text.specs.Parts.{Lacks, EndsVars}
+use Rattle.vmv_text.specs.declared.token.Token.TheVariants.{VarWord, ReturnWord, CloseBrace, CloseParen, Semicolon}
+use Rattle.vmv_text.specs.Grammar.{IsName, IsOperand, IsParam, Commas, AnyCommas, AreStmts, IsVars, IsInBody, IsBody, IsItem, IsProgram, IsText}
+use Rattle.vmv_text.specs.Parts.{EndsVars}
 use Rattle.vmv_text.specs.Tokens.{tokens}
-use Rattle.vmv_text.proofs.OneBlock.{operand_once, name_once, name_close, param_once, param_close, commas_once, any_commas_once, semicolon-no_comma, kind_at, kind_of, kind-first, none, kind-some, block_once, BlockOnce}
+use Rattle.vmv_text.proofs.OneBlock.{operand_once, name_once, name_close, param_once, param_close, commas_once, any_commas_once, semicolon-no_comma, kind_at, kind-first, kind-some, block_once, BlockOnce}
 
 -- statements up to `return` begin with no `var`
 pub stmts_no_var : (b : Block) (ts r q : List Token) → AreStmts b ts (ReturnWord ∷ r) → ts ≡ VarWord ∷ q → ⊥

@@ -1,5 +1,5 @@
 -- A straight program, and the first class.
-use Rattle.std.proofs.Common.{◌≡◌, ℕ, Bool, true, false, List, [], ◌∷◌, ◌++◌, refl, sym, ◌∙◌, ap, subst, IsTrue, Result, Ok, Err}
+use Rattle.std.proofs.Common.{◌≡◌, ℕ, true, false, List, [], ◌∷◌, ◌++◌, sym, ◌∙◌, ap, subst, Result, Ok, Err}
 use Rattle.std.proofs.lemmas.Bool.{and_parts}
 use Rattle.vmv_tree.specs.declared.name.Name.{Name}
 use Rattle.vmv_tree.specs.declared.tree.Item.{Item as CodeItem}
@@ -12,7 +12,7 @@ use Rattle.vmv_text.specs.declared.fault.FirstFault.TheVariants.{NotBuilt, Memor
 use Rattle.vmv_text.specs.Tokens.{tokens}
 use Rattle.vmv_text.specs.Grammar.{IsItem, IsProgram, IsText}
 use Rattle.vmv_text.specs.First.{is_first_stmt, are_first_stmts, is_first, IsFirst}
-use Rattle.vmv_text.specs.Parts.{NoneBegins, Builds, IsStraight, AreStraight, IsStraightEntry, IsStraightItem, IsStraightProgram}
+use Rattle.vmv_text.specs.Parts.{NoneBegins, Builds, IsStraight, AreStraight, IsStraightItem, IsStraightProgram}
 use Rattle.vmv_text.proofs.OneTree.{item_once, text_once}
 
 -- no entry begins the text

@@ -1,12 +1,12 @@
 -- Straight statements, read one after another up to the word `return`.
-use Rattle.std.proofs.Common.{◌≡◌, ℕ, false, List, [], ◌∷◌, ◌++◌, refl, sym, ◌∙◌, ap, subst, inr}
+use Rattle.std.proofs.Common.{◌≡◌, ℕ, false, List, [], ◌∷◌, ◌++◌, refl, sym, ap, subst, inr}
 use Rattle.vmv_tree.specs.declared.tree.Stmt.{Stmt as CodeStmt}
 use Rattle.vmv_tree.specs.Tree.{Stmt, copy, compute, call, assert, choose, repeat, Block, [], ◌∷◌}
 use Rattle.vmv_tree.specs.View.{stmt_of, block_of}
 use Rattle.vmv_text.specs.declared.token.Token.{Token}
 use Rattle.vmv_text.specs.declared.token.Token.TheVariants.{ReturnWord}
 use Rattle.vmv_text.specs.Tokens.{tokens}
-use Rattle.vmv_text.specs.Grammar.{Takes, IsStmt, AreStmts}
+use Rattle.vmv_text.specs.Grammar.{IsStmt, AreStmts}
 use Rattle.vmv_text.specs.Parts.{NoneBegins, Tests, IsStraight, AreStraight, IsStraightStmt, AreStraightStmts}
 use Rattle.vmv_text.proofs.OneBlock.{stmt_once, no_stmt, NoElseAfter}
 

@@ -11,7 +11,7 @@ use Rattle.vmv_text.specs.declared.token.Token.TheVariants.{Named, Number, Edge,
 use Rattle.vmv_text.specs.declared.fault.FirstFault.{FirstFault}
 use Rattle.vmv_text.specs.declared.fault.FirstFault.TheVariants.{NotBuilt, Memory}
 use Rattle.vmv_text.specs.Tokens.{tokens}
-use Rattle.vmv_text.specs.Grammar.{Takes, op_token, rel_token, IsOperand, IsStmt, AreStmts, Commas, AnyCommas, IsParam, IsVars, IsBody, IsItem, IsProgram}
+use Rattle.vmv_text.specs.Grammar.{Takes, op_token, rel_token, IsOperand, IsStmt, AreStmts, Commas, AnyCommas, IsParam, IsVars, IsBody, IsItem}
 
 -- no such part begins here
 abbrev pub NoneBegins : {X : Type 0} → (X → Takes) → List Token → Type 0
@@ -105,7 +105,6 @@ abbrev pub IsStraightProgram : List Item → Type 0
 IsStraightProgram [] = ⊥
 IsStraightProgram (item ∷ []) = IsStraightEntry item
 IsStraightProgram (item ∷ more ∷ items) = ⊥
-
 
 -- a list with commas was taken, as long as it goes on, or none begins here that ends before no comma
 abbrev pub BuildsCommas : {X : Type 0} → (X → Takes) → Result (List X) FirstFault → (old new : List ℕ) → Type 0

@@ -85,11 +85,7 @@ fn are_ordered(params: &[Param]) -> bool
     params.iter().all(|param| param.lo <= param.hi)
 }
 
-fn declared_names(
-    alloc: Global,
-    params: &[Param],
-    vars: &[Name],
-) -> Result<Vec<Name>, AllocError>
+fn declared_names(alloc: Global, params: &[Param], vars: &[Name]) -> Result<Vec<Name>, AllocError>
     ensures { IfOk result (λ names. names.items ≡ declared_names params.now vars.now) }
 {
     let mut names = Vec::new(alloc);
@@ -108,10 +104,12 @@ fn is_first_entry(alloc: Global, params: &[Param], body: &Body) -> Result<bool, 
     }
     let names = declared_names(alloc, params, body.vars.as_slice())?;
     let names = names.as_slice();
-    Ok(are_distinct(names)
-        && are_ordered(params)
-        && are_first_stmts(names, body.block.as_slice())
-        && is_declared(names, &body.result))
+    Ok(
+        are_distinct(names)
+            && are_ordered(params)
+            && are_first_stmts(names, body.block.as_slice())
+            && is_declared(names, &body.result),
+    )
 }
 
 /// Whether a program is of the first class.

@@ -55,5 +55,7 @@ pub fn read_first(alloc: Global, text: &[u8]) -> Result<Program, FirstFault>
 /// No text is that of two programs.
 pub fn one_program()
     ensures { (bytes : List ℕ) (p q : List Item) → IsText bytes p → IsText bytes q → p ≡ q }
-{
-}
+{}
+
+#[cfg(test)]
+mod tests;

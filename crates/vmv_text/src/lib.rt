@@ -15,4 +15,3 @@ mod token;
 
 pub use fault::FirstFault;
 pub use first::{one_program, read_first};
-pub use token::{Small, Token};

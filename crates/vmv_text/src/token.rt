@@ -1,13 +1,12 @@
 ghost use Rattle.std.specs.Prelude.{◌≡◌, ◌<◌, ◌^◌, pos, neg_ℤ};
 ghost use Rattle.std.specs.Option.{SomeIff};
 
-use vmv_tree::Name;
-
 use std::marker::Model;
+use vmv_tree::Name;
 
 /// A number from 0 to 2^63 - 1.
 #[derive(Clone, Copy, PartialEq, Eq, Debug)]
-pub struct Small {
+pub(crate) struct Small {
     value: u64,
 }
 
@@ -24,7 +23,7 @@ impl Model for Small {
 }
 
 impl Small {
-    pub fn new(value: u64) -> Option<Small>
+    pub(crate) fn new(value: u64) -> Option<Small>
         ensures { SomeIff result (value < 2 ^ 63) value }
     {
         if value < 1 << 63 {
@@ -35,14 +34,14 @@ impl Small {
     }
 
     /// The number as a word.
-    pub fn word(&self) -> i64
+    pub(crate) fn word(&self) -> i64
         ensures { result ≡ pos self.now }
     {
         self.value as i64
     }
 
     /// The number with the other sign.
-    pub fn negated(&self) -> i64
+    pub(crate) fn negated(&self) -> i64
         ensures { result ≡ neg_ℤ (pos self.now) }
     {
         -(self.value as i64)
@@ -51,7 +50,7 @@ impl Small {
 
 /// A token of a program's text.
 #[derive(Clone, Copy, PartialEq, Eq, Debug)]
-pub enum Token {
+pub(crate) enum Token {
     Named(Name),
     Number(Small),
     Edge,

@@ -12,8 +12,8 @@ returns-in_err-program-clause-not_built c =
 pub returns-else-branch-clause-not_built : goal.returns-else-branch-clause-not_built
 returns-else-branch-clause-not_built c =
     λ is. text_not_first c.args.text.now (program_of c.in_ok-program.program)
-      (record {
-        utf8 = ok_says c.from_utf8.result _ _ (sym c.is_err.ensures.value ∙ c.if-is_err.false) c.from_utf8.ensures.cases;
-        grammar = c.in_ok-program.ensures.program;
-      })
-      (sym c.in_ok-is_first.ensures ∙ c.if-branch.false)
+    (record {
+      utf8 = ok_says c.from_utf8.result _ _ (sym c.is_err.ensures.value ∙ c.if-is_err.false) c.from_utf8.ensures.cases;
+      grammar = c.in_ok-program.ensures.program;
+    })
+    (sym c.in_ok-is_first.ensures ∙ c.if-branch.false)

@@ -1,5 +1,4 @@
 use Rattle.vmv_text.specs.declared.token.Token.TheVariants.{Equals}
-use Rattle.vmv_text.specs.Tokens.{tokens}
 use Rattle.vmv_text.specs.Grammar.{IsOperand}
 use Rattle.vmv_text.specs.Parts.{IsToken, IsTail}
 use Rattle.vmv_text.proofs.OneBlock.{operand_once}
@@ -15,15 +14,15 @@ pub returns-in_err-left-clause-reads : goal.returns-in_err-left-clause-reads
 returns-in_err-left-clause-reads c =
     rw c.from_residual-in_err-left.ensures
     (assignment-chain c.args.to _
-      (none_second (IsToken Equals) (Then IsOperand IsTail) (token_once Equals) tt _ _ c.in_ok-equals.ensures.reads
-        (none_first IsOperand IsTail _ c.in_err-left.ensures.reads)))
+    (none_second (IsToken Equals) (Then IsOperand IsTail) (token_once Equals) tt _ _ c.in_ok-equals.ensures.reads
+    (none_first IsOperand IsTail _ c.in_err-left.ensures.reads)))
 
 pub returns-in_err-tail-clause-reads : goal.returns-in_err-tail-clause-reads
 returns-in_err-tail-clause-reads c =
     rw c.from_residual-in_err-tail.ensures
     (assignment-chain c.args.to _
-      (none_second (IsToken Equals) (Then IsOperand IsTail) (token_once Equals) tt _ _ c.in_ok-equals.ensures.reads
-        (none_second IsOperand IsTail operand_once c.in_ok-left.left _ _ c.in_ok-left.ensures.reads c.in_err-tail.ensures.reads)))
+    (none_second (IsToken Equals) (Then IsOperand IsTail) (token_once Equals) tt _ _ c.in_ok-equals.ensures.reads
+    (none_second IsOperand IsTail operand_once c.in_ok-left.left _ _ c.in_ok-left.ensures.reads c.in_err-tail.ensures.reads)))
 
 pub returns-in-None-clause-reads : goal.returns-in-None-clause-reads
 returns-in-None-clause-reads c =

@@ -15,5 +15,5 @@ pub returns-in_err-open_paren-clause-reads : goal.returns-in_err-open_paren-clau
 returns-in_err-open_paren-clause-reads c =
     rw c.from_residual-in_err-open_paren.ensures
     (entry_head-chain _
-      (none_second (IsToken EntryWord) (Then IsName (IsToken OpenParen)) (token_once EntryWord) tt _ _ c.in_ok-entry_word.ensures.reads
-        (none_second IsName (IsToken OpenParen) name_once c.in_ok-name.name _ _ c.in_ok-name.ensures.reads c.in_err-open_paren.ensures.reads)))
+    (none_second (IsToken EntryWord) (Then IsName (IsToken OpenParen)) (token_once EntryWord) tt _ _ c.in_ok-entry_word.ensures.reads
+    (none_second IsName (IsToken OpenParen) name_once c.in_ok-name.name _ _ c.in_ok-name.ensures.reads c.in_err-open_paren.ensures.reads)))

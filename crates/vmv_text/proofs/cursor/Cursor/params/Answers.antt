@@ -1,5 +1,5 @@
 use Rattle.std.proofs.lemmas.Result.{err_from_is_err_and}
-use Rattle.vmv_text.proofs.Entries.{params_no_list, params_no_end, params_made}
+use Rattle.vmv_text.proofs.Entries.{params_no_list, params_no_end}
 use Rattle.vmv_text.proofs.cursor.Cursor.params.Goals as goal
 
 pub returns-in_err-params : goal.returns-in_err-params

@@ -1,5 +1,5 @@
 use Rattle.std.proofs.lemmas.Result.{err_from_is_err_and}
-use Rattle.vmv_text.proofs.Entries.{vars_no_names, vars_no_end, vars_made}
+use Rattle.vmv_text.proofs.Entries.{vars_no_names, vars_no_end}
 use Rattle.vmv_text.proofs.cursor.Cursor.vars.Goals as goal
 
 pub returns-in_err-names : goal.returns-in_err-names
