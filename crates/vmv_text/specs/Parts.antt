@@ -22,6 +22,12 @@ abbrev pub Reads : {X : Type 0} → (X → Takes) → Option X → (old new : Li
 Reads takes (Some x) old new = takes x (tokens old) (tokens new)
 Reads takes None old new = NoneBegins takes (tokens old)
 
+-- the same where memory may run out, for a part that view shows
+abbrev pub Builds : {A X : Type 0} → (A → X) → (X → Takes) → Result A FirstFault → (old new : List ℕ) → Type 0
+Builds view takes (Ok x) old new = takes (view x) (tokens old) (tokens new)
+Builds view takes (Err NotBuilt) old new = NoneBegins takes (tokens old)
+Builds view takes (Err Memory) old new = Unit {0}
+
 -- this token doesn't stand first
 abbrev pub Lacks : Token → List Token → Type 0
 Lacks token ts = (rest : List Token) → ts ≡ token ∷ rest → ⊥
@@ -30,12 +36,6 @@ Lacks token ts = (rest : List Token) → ts ≡ token ∷ rest → ⊥
 abbrev pub Tests : Token → Bool → (old new : List ℕ) → Type 0
 Tests token true old new = tokens old ≡ token ∷ tokens new
 Tests token false old new = Lacks token (tokens old) × (new ≡ old)
-
--- the same where memory may run out, for a part that view shows
-abbrev pub Builds : {A X : Type 0} → (A → X) → (X → Takes) → Result A FirstFault → (old new : List ℕ) → Type 0
-Builds view takes (Ok x) old new = takes (view x) (tokens old) (tokens new)
-Builds view takes (Err NotBuilt) old new = NoneBegins takes (tokens old)
-Builds view takes (Err Memory) old new = Unit {0}
 
 -- this one token
 abbrev pub IsToken : Token → Unit {0} → Takes

@@ -1,4 +1,7 @@
-//! The texts of programs.
+//! The texts of programs: tokens, grammar, and what reads them.
+//!
+//! A text is read once, token by token, by a cursor that knows what is left of it. Each reader of a part either takes
+//! that part off the front, or says that no such part begins there.
 #![tactic(auto)]
 
 mod class;
