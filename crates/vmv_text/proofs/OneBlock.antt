@@ -8,7 +8,7 @@ use Rattle.vmv_tree.specs.declared.tree.Op.TheVariants.{Add, Sub, Mul, Div, Rem}
 use Rattle.vmv_tree.specs.declared.tree.Rel.{Rel}
 use Rattle.vmv_tree.specs.declared.tree.Rel.TheVariants.{Equal, Unequal, Less, AtMost, Greater, AtLeast}
 use Rattle.vmv_tree.specs.declared.tree.Test.{Test}
-use Rattle.vmv_tree.specs.Tree.{Stmt, copy, compute, call, assert, choose, repeat, Block, [], ◌∷◌}
+use Rattle.vmv_tree.specs.Tree.{Stmt, copy, compute, call, assert, choose, repeat, Block, [], ◌⨾◌}
 use Rattle.vmv_text.specs.declared.token.Token.{Token}
 use Rattle.vmv_text.specs.declared.token.Token.TheVariants.{Named, Number, IfWord, ElseWord, RepeatWord, CapWord, AssertWord, OpenParen, CloseBrace, ReturnWord, CloseParen, Semicolon, Comma, Dots}
 use Rattle.vmv_text.specs.Grammar.{Takes, IsLit, IsName, IsOperand, IsTest, IsParam, Commas, AnyCommas, IsStmt, AreStmts, Braces, op_token, rel_token}
@@ -199,7 +199,7 @@ block_no_else : (b : Block) (t : Token) (ts r : List Token) → Ends_at t → Ar
 unfolding AreStmts
 block_no_else [] t ts r (inl e) h x k = cc (e, h, k)
 block_no_else [] t ts r (inr e) h x k = cc (e, h, k)
-block_no_else (s ∷ b) t ts r e h x k = stmt_no_else s ts h.0 h.1 x k
+block_no_else (s ⨾ b) t ts r e h x k = stmt_no_else s ts h.0 h.1 x k
 
 -- an operand at a name that is called ends before the parenthesis
 pub called : (o : Operand) (f : Name) (ts p q : List Token) → ts ≡ Named f ∷ OpenParen ∷ p → IsOperand o ts q → q ≡ OpenParen ∷ p
@@ -317,9 +317,9 @@ mutual
 
   pub block_once : (b c : Block) → BlockOnce b c
   block_once [] [] t u ts r q e d h k = (refl, sym h ∙ k)
-  block_once [] (s ∷ c) t u ts r q e d h k = absurd (no_stmt s t ts k.0 r e k.1 h)
-  block_once (s ∷ b) [] t u ts r q e d h k = absurd (no_stmt s u ts h.0 q d h.1 k)
-  block_once (s ∷ b) (s' ∷ c) t u ts r q e d h k =
+  block_once [] (s ⨾ c) t u ts r q e d h k = absurd (no_stmt s t ts k.0 r e k.1 h)
+  block_once (s ⨾ b) [] t u ts r q e d h k = absurd (no_stmt s u ts h.0 q d h.1 k)
+  block_once (s ⨾ b) (s' ⨾ c) t u ts r q e d h k =
       let one = stmt_once s s' ts h.0 k.0 h.1 k.1 (no_else_after s h.0 (block_no_else b t h.0 r e h.2)) (no_else_after s' k.0 (block_no_else c u k.0 q d k.2)) in
       let rest = block_once b c t u k.0 r q e d (subst (λ m. AreStmts b m (t ∷ r)) one.1 h.2) k.2 in
-      (λ i. one.0 i ∷ rest.0 i, rest.1)
+      (λ i. one.0 i ⨾ rest.0 i, rest.1)

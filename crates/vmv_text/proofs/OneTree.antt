@@ -1,7 +1,7 @@
 -- A text is that of one program at most.
 use Rattle.std.proofs.Common.{◌≡◌, inr, ℕ, List, [], ◌∷◌, refl, sym, ◌∙◌, ap, subst}
 use Rattle.vmv_tree.specs.declared.name.Name.{Name}
-use Rattle.vmv_tree.specs.Tree.{Block, [], ◌∷◌, Body, Item, outside, helper, entry}
+use Rattle.vmv_tree.specs.Tree.{Block, [], ◌⨾◌, Body, Item, outside, helper, entry}
 use Rattle.vmv_text.specs.declared.token.Token.{Token}
 use Rattle.vmv_text.specs.declared.token.Token.TheVariants.{VarWord, ReturnWord, CloseBrace, CloseParen, Semicolon}
 use Rattle.vmv_text.specs.Grammar.{IsName, IsOperand, IsParam, Commas, AnyCommas, AreStmts, IsVars, IsInBody, IsBody, IsItem, IsProgram, IsText}
@@ -13,7 +13,7 @@ use Rattle.vmv_text.proofs.OneBlock.{operand_once, name_once, name_close, param_
 pub stmts_no_var : (b : Block) (ts r q : List Token) → AreStmts b ts (ReturnWord ∷ r) → ts ≡ VarWord ∷ q → ⊥
 unfolding AreStmts
 stmts_no_var [] ts r q h k = cc (h, k)
-stmts_no_var (s ∷ b) ts r q h k = kind-some s (sym (kind-first s ts h.0 h.1) ∙ ap kind_at k)
+stmts_no_var (s ⨾ b) ts r q h k = kind-some s (sym (kind-first s ts h.0 h.1) ∙ ap kind_at k)
 
 pub stmts-end_vars : (xs : List Name) (b : Block) (ts r : List Token) → AreStmts b ts (ReturnWord ∷ r) → EndsVars xs ts
 stmts-end_vars [] b ts r h = λ x k. stmts_no_var b ts r x h k

@@ -4,7 +4,7 @@ use Rattle.std.proofs.lemmas.Bool.{and_parts}
 use Rattle.vmv_tree.specs.declared.name.Name.{Name}
 use Rattle.vmv_tree.specs.declared.tree.Item.{Item as CodeItem}
 use Rattle.vmv_tree.specs.View.{item_of, items_of}
-use Rattle.vmv_tree.specs.Tree.{Stmt, copy, compute, call, assert, choose, repeat, Block, [], ◌∷◌, Item, outside, helper, entry}
+use Rattle.vmv_tree.specs.Tree.{Stmt, copy, compute, call, assert, choose, repeat, Block, [], ◌⨾◌, Item, outside, helper, entry}
 use Rattle.vmv_text.specs.declared.token.Token.{Token}
 use Rattle.std.specs.Result.{IsErrOf, is_err, MatchResult}
 use Rattle.vmv_text.specs.declared.fault.FirstFault.{FirstFault}
@@ -47,7 +47,7 @@ first-straight names (repeat index bound most body) h = absurd (cc h)
 
 first-straights : (names : List Name) (b : Block) → are_first_stmts names b ≡ true → AreStraight b
 first-straights names [] h = tt
-first-straights names (s ∷ b) h =
+first-straights names (s ⨾ b) h =
     let both = and_parts (is_first_stmt names s) (are_first_stmts names b) h in
     (first-straight names s both.0, first-straights names b both.1)
 

@@ -1,7 +1,7 @@
 -- Straight statements, read one after another up to the word `return`.
 use Rattle.std.proofs.Common.{◌≡◌, ℕ, false, List, [], ◌∷◌, ◌++◌, refl, sym, ap, subst, inr}
 use Rattle.vmv_tree.specs.declared.tree.Stmt.{Stmt as CodeStmt}
-use Rattle.vmv_tree.specs.Tree.{Stmt, copy, compute, call, assert, choose, repeat, Block, [], ◌∷◌}
+use Rattle.vmv_tree.specs.Tree.{Stmt, copy, compute, call, assert, choose, repeat, Block, [], ◌⨾◌}
 use Rattle.vmv_tree.specs.View.{stmt_of, block_of}
 use Rattle.vmv_text.specs.declared.token.Token.{Token}
 use Rattle.vmv_text.specs.declared.token.Token.TheVariants.{ReturnWord}
@@ -12,23 +12,23 @@ use Rattle.vmv_text.proofs.OneBlock.{stmt_once, no_stmt, NoElseAfter}
 
 -- a block with one more statement behind it
 with_stmt : Block → Stmt → Block
-with_stmt [] t = t ∷ []
-with_stmt (s ∷ b) t = s ∷ with_stmt b t
+with_stmt [] t = t ⨾ []
+with_stmt (s ⨾ b) t = s ⨾ with_stmt b t
 
 block_of-push : (xs : List CodeStmt) (s : CodeStmt) → block_of (xs ++ s ∷ []) ≡ with_stmt (block_of xs) (stmt_of s)
 unfolding with_stmt
 block_of-push [] s = refl
-block_of-push (x ∷ xs) s = ap (λ b. stmt_of x ∷ b) (block_of-push xs s)
+block_of-push (x ∷ xs) s = ap (λ b. stmt_of x ⨾ b) (block_of-push xs s)
 
 with-straight : (b : Block) (t : Stmt) → AreStraight b → IsStraight t → AreStraight (with_stmt b t)
 unfolding with_stmt
 with-straight [] t h k = (k, tt)
-with-straight (s ∷ b) t h k = (h.0, with-straight b t h.1 k)
+with-straight (s ⨾ b) t h k = (h.0, with-straight b t h.1 k)
 
 with-stmts : (b : Block) (t : Stmt) (ts mid rest : List Token) → AreStmts b ts mid → IsStmt t mid rest → AreStmts (with_stmt b t) ts rest
 unfolding with_stmt AreStmts
 with-stmts [] t ts mid rest h k = (rest, subst (λ m. IsStmt t m rest) (sym h) k, refl)
-with-stmts (s ∷ b) t ts mid rest h k = (h.0, h.1, with-stmts b t h.0 mid rest h.2 k)
+with-stmts (s ⨾ b) t ts mid rest h k = (h.0, h.1, with-stmts b t h.0 mid rest h.2 k)
 
 straight-no_else : (s : Stmt) (r : List Token) → IsStraight s → NoElseAfter s r
 straight-no_else (copy to from) r h = tt
@@ -55,7 +55,7 @@ along_start start = record { straight = tt; so_far = refl; onward = λ b rest h.
 past : (t : Stmt) (now mid rest : List Token) → IsStraightStmt t now mid → (c : Block) → AreStraightStmts c now rest → (d : Block) × AreStraightStmts d mid rest
 unfolding AreStmts
 past t now mid rest h [] k = absurd (no_stmt t ReturnWord now mid rest (inr refl) h.1 k.1)
-past t now mid rest h (s ∷ c) k =
+past t now mid rest h (s ⨾ c) k =
     let e = straight_once s t now k.1.0 mid (k.0.0, k.1.1) h in
     (c, (k.0.1, subst (λ m. AreStmts c m (ReturnWord ∷ rest)) e.1 k.1.2))
 
@@ -81,4 +81,4 @@ along_none start block now mid a same none b rest h = let z = a.onward b rest h 
   where
     no_block : (c : Block) → AreStraightStmts c (tokens now) rest → ⊥
     no_block [] k = same.0 rest k.1
-    no_block (s ∷ c) k = none s k.1.0 (subst (λ t. IsStraightStmt s (tokens t) k.1.0) (sym same.1) (k.0.0, k.1.1))
+    no_block (s ⨾ c) k = none s k.1.0 (subst (λ t. IsStraightStmt s (tokens t) k.1.0) (sym same.1) (k.0.0, k.1.1))

@@ -8,7 +8,7 @@ use Rattle.vmv_tree.specs.declared.tree.Operand.TheVariants.{Lit, Var}
 use Rattle.vmv_tree.specs.declared.tree.Op.{Op}
 use Rattle.vmv_tree.specs.declared.tree.Op.TheVariants.{Add, Sub, Mul, Div, Rem}
 use Rattle.vmv_tree.specs.declared.tree.Param.{Param}
-use Rattle.vmv_tree.specs.Tree.{Stmt, copy, compute, call, assert, choose, repeat, Block, [], ◌∷◌, Body, Item, outside, helper, entry}
+use Rattle.vmv_tree.specs.Tree.{Stmt, copy, compute, call, assert, choose, repeat, Block, [], ◌⨾◌, Body, Item, outside, helper, entry}
 
 abbrev pub is_among : List Name → Name → Bool
 is_among names x = list_any (λ y. bytes_eq y x) names
@@ -37,7 +37,7 @@ is_first_stmt names (repeat index bound most body) = false
 
 abbrev pub are_first_stmts : List Name → Block → Bool
 are_first_stmts names [] = true
-are_first_stmts names (s ∷ block) = is_first_stmt names s && are_first_stmts names block
+are_first_stmts names (s ⨾ block) = is_first_stmt names s && are_first_stmts names block
 
 -- no name stands twice
 abbrev pub are_distinct : List Name → Bool

@@ -10,7 +10,7 @@ use Rattle.vmv_tree.specs.declared.tree.Rel.{Rel}
 use Rattle.vmv_tree.specs.declared.tree.Rel.TheVariants.{Equal, Unequal, Less, AtMost, Greater, AtLeast}
 use Rattle.vmv_tree.specs.declared.tree.Test.{Test}
 use Rattle.vmv_tree.specs.declared.tree.Param.{Param}
-use Rattle.vmv_tree.specs.Tree.{Stmt, copy, compute, call, assert, choose, repeat, Block, [], ◌∷◌, Body, Item, outside, helper, entry}
+use Rattle.vmv_tree.specs.Tree.{Stmt, copy, compute, call, assert, choose, repeat, Block, [], ◌⨾◌, Body, Item, outside, helper, entry}
 use Rattle.vmv_text.specs.declared.token.Token.{Token}
 use Rattle.vmv_text.specs.declared.token.Token.TheVariants.{Named, Number, Edge, OutsideWord, HelperWord, EntryWord, VarWord, ReturnWord, AssertWord, IfWord, ElseWord, RepeatWord, ToWord, CapWord, Dots, DoubleEquals, NotEquals, LessOrEqual, GreaterOrEqual, OpenParen, CloseParen, OpenBrace, CloseBrace, Comma, Semicolon, Colon, Equals, Plus, Minus, Star, Slash, Percent, LessThan, GreaterThan}
 use Rattle.vmv_text.specs.Tokens.{tokens}
@@ -89,7 +89,7 @@ unfoldable mutual
 
   pub AreStmts : Block → Takes
   AreStmts [] ts rest = ts ≡ rest
-  AreStmts (s ∷ block) ts rest = (mid : List Token) × IsStmt s ts mid × AreStmts block mid rest
+  AreStmts (s ⨾ block) ts rest = (mid : List Token) × IsStmt s ts mid × AreStmts block mid rest
 
 -- [ "var" name { "," name } ";" ]
 abbrev pub IsVars : List Name → Takes

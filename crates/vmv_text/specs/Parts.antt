@@ -5,7 +5,7 @@ use Rattle.vmv_tree.specs.declared.tree.Op.{Op}
 use Rattle.vmv_tree.specs.declared.tree.Operand.{Operand}
 use Rattle.vmv_tree.specs.declared.tree.Rel.{Rel}
 use Rattle.vmv_tree.specs.declared.tree.Param.{Param}
-use Rattle.vmv_tree.specs.Tree.{Stmt, copy, compute, call, assert, choose, repeat, Block, [], ◌∷◌, Body, Item, outside, helper, entry}
+use Rattle.vmv_tree.specs.Tree.{Stmt, copy, compute, call, assert, choose, repeat, Block, [], ◌⨾◌, Body, Item, outside, helper, entry}
 use Rattle.vmv_text.specs.declared.token.Token.{Token}
 use Rattle.vmv_text.specs.declared.token.Token.TheVariants.{Named, Number, Edge, AssertWord, VarWord, ReturnWord, Semicolon, Comma, EntryWord, OpenParen, CloseParen, CloseBrace}
 use Rattle.vmv_text.specs.declared.fault.FirstFault.{FirstFault}
@@ -65,7 +65,7 @@ IsStraight (repeat index bound most body) = ⊥
 
 abbrev pub AreStraight : Block → Type 0
 AreStraight [] = Unit {0}
-AreStraight (s ∷ block) = IsStraight s × AreStraight block
+AreStraight (s ⨾ block) = IsStraight s × AreStraight block
 
 abbrev pub IsStraightStmt : Stmt → Takes
 IsStraightStmt s ts rest = IsStraight s × IsStmt s ts rest
