@@ -1,0 +1,7 @@
+pub mod RunFixed
+pub mod RunExists
+pub mod RunBound
+pub mod RunSteps
+pub mod Counted
+pub mod Resolved
+pub mod OneRun
