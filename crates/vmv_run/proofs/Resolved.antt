@@ -6,7 +6,7 @@ use Rattle.std.specs.Str.{bytes_eq}
 use Rattle.std.proofs.lemmas.List.{reverse-append}
 use Rattle.std.proofs.lemmas.Slice.Eq.{bytes_eq-Decides}
 use Rattle.vmv_tree.specs.declared.name.Name.{Name}
-use Rattle.vmv_tree.specs.Tree.{Stmt, copy, compute, call, assert, choose, repeat, Block, [], ◌∷◌, Body, Item, outside, helper, entry}
+use Rattle.vmv_tree.specs.Tree.{Stmt, copy, compute, call, assert, choose, repeat, Block, [], ◌⨾◌, Body, Item, outside, helper, entry}
 use Rattle.vmv_tree.specs.Run.{name_of}
 use Rattle.vmv_tree.specs.Mentions.{operand_mentions, test_mentions, mentions, block_mentions, item_mentions}
 use Rattle.vmv_tree.specs.Limits.{indexes_of, block_indexes}
@@ -104,7 +104,7 @@ mutual
 
   block_callees : (scope : Scope) (k : ℕ) (b : Block) → AreDistinct scope.above → Clean (InBlock scope k b) → BlockCallees (Declares scope.above) b
   block_callees scope k [] distinct clean = tt
-  block_callees scope k (s ∷ rest) distinct clean = (
+  block_callees scope k (s ⨾ rest) distinct clean = (
     stmt_callees scope k s distinct (λ m d h. clean m d (inl h)),
     block_callees (record scope { declared = scope.declared ++ indexes_of s }) (k + mentions s) rest distinct (λ m d h. clean m d (inr h)),
   )

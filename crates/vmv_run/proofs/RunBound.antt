@@ -4,7 +4,7 @@ use Rattle.std.specs.Prelude.{int_lt}
 use Rattle.std.proofs.Math.Nat.{mul-le-mul_right}
 use Rattle.std.proofs.lemmas.Bool.Decides.{nat_tests}
 use Rattle.vmv_tree.specs.declared.name.Name.{Name}
-use Rattle.vmv_tree.specs.Tree.{Stmt, copy, compute, call, assert, choose, repeat, Block, [], ◌∷◌}
+use Rattle.vmv_tree.specs.Tree.{Stmt, copy, compute, call, assert, choose, repeat, Block, [], ◌⨾◌}
 use Rattle.vmv_tree.specs.Limits.{asks, block_asks}
 use Rattle.vmv_run.specs.Callees.{Callees, BlockCallees}
 use Rattle.vmv_tree.specs.Run.{Valuation, Answers, End, next, Outcome, Does, Ends, InARow, Turns, Calls, Runs, RunsAll, value, assign, sites, block_sites, turns_of}
@@ -56,5 +56,5 @@ module _ (calls : Calls) (proc : Name) (of : Name → ℕ) (ok : Name → Type 0
 
     pub RunsAll-within : (k : ℕ) (b : Block) → BlockCallees ok b → IsWithin (block_asks of b) (RunsAll calls proc k b)
     RunsAll-within k [] c v a e h = none_asked a _ h.0
-    RunsAll-within k (s ∷ rest) c v a e h =
+    RunsAll-within k (s ⨾ rest) c v a e h =
         InARow-within _ _ (Runs calls proc k s) (RunsAll calls proc (k + sites s) rest) (Runs-within k s c.0) (RunsAll-within (k + sites s) rest c.1) v a e h

@@ -3,7 +3,7 @@ use Rattle.std.proofs.Common.{inl, inr, ℕ, zero, suc, ◌+◌, ℤ, pos, Bool,
 use Rattle.std.specs.Bool.{⊤}
 use Rattle.vmv_tree.specs.declared.name.Name.{Name}
 use Rattle.vmv_tree.specs.Words.{IsWord}
-use Rattle.vmv_tree.specs.Tree.{Stmt, copy, compute, call, assert, choose, repeat, Block, [], ◌∷◌, Body, Item, outside, helper, entry}
+use Rattle.vmv_tree.specs.Tree.{Stmt, copy, compute, call, assert, choose, repeat, Block, [], ◌⨾◌, Body, Item, outside, helper, entry}
 use Rattle.vmv_tree.specs.Run.{Valuation, Answers, End, next, Outcome, done, Does, Ends, InARow, Turns, Calls, Runs, RunsAll, RunsBody, RunsItem, RunsAbove, set_to_outcome, outcome_of, value, assign, sites, block_sites, start}
 use Rattle.vmv_run.specs.Callees.{Callees, BlockCallees, ItemCallees, Declares, IsResolved}
 use Rattle.vmv_run.specs.Constant.{AreFrom}
@@ -60,7 +60,7 @@ module _ (c : Name → ℤ) (calls : Calls) (proc : Name) where
 
     RunsAll-can : (k : ℕ) (b : Block) → BlockCallees (Answer c calls) b → Can c (RunsAll calls proc k b)
     RunsAll-can k [] h v = ([], _, (refl, refl), tt)
-    RunsAll-can k (s ∷ rest) h v = InARow-can c (Runs calls proc k s) (RunsAll calls proc (k + sites s) rest) (Runs-can k s h.0) (RunsAll-can (k + sites s) rest h.1) v
+    RunsAll-can k (s ⨾ rest) h v = InARow-can c (Runs calls proc k s) (RunsAll calls proc (k + sites s) rest) (Runs-can k s h.0) (RunsAll-can (k + sites s) rest h.1) v
 
 -- A callee that is one of these is one of those.
 mutual
@@ -74,7 +74,7 @@ mutual
 
   BlockCallees-map : (P Q : Name → Type 0) → ((name : Name) → P name → Q name) → (b : Block) → BlockCallees P b → BlockCallees Q b
   BlockCallees-map P Q f [] h = tt
-  BlockCallees-map P Q f (s ∷ rest) h = (Callees-map P Q f s h.0, BlockCallees-map P Q f rest h.1)
+  BlockCallees-map P Q f (s ⨾ rest) h = (Callees-map P Q f s h.0, BlockCallees-map P Q f rest h.1)
 
 RunsBody-can : (c : Name → ℤ) (calls : Calls) (proc : Name) (params : List Name) (body : Body) → BlockCallees (Answer c calls) body.block
     → (words : List ℤ) → (a : Answers) × (d : Outcome) × RunsBody calls proc params body words a d × AreFrom c a

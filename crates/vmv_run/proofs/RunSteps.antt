@@ -3,7 +3,7 @@ use Rattle.std.proofs.Common.{◌≡◌, inl, inr, ℕ, zero, suc, ◌+◌, ◌*
 use Rattle.std.specs.Prelude.{int_lt}
 use Rattle.std.proofs.Math.Nat.{mul-le-mul_right}
 use Rattle.vmv_tree.specs.declared.name.Name.{Name}
-use Rattle.vmv_tree.specs.Tree.{Stmt, copy, compute, call, assert, choose, repeat, Block, [], ◌∷◌}
+use Rattle.vmv_tree.specs.Tree.{Stmt, copy, compute, call, assert, choose, repeat, Block, [], ◌⨾◌}
 use Rattle.vmv_tree.specs.Run.{Valuation, Answers, End, next, Outcome, Does, InARow, Turns, Calls, Runs, RunsAll, value, assign, holds, sites, block_sites, turns_of}
 use Rattle.vmv_tree.specs.Limits.{steps, block_steps}
 use Rattle.vmv_run.specs.Callees.{Callees, BlockCallees}
@@ -45,5 +45,5 @@ module _ (calls : Calls) (proc : Name) (of : (callee : Name) (words : List ℤ) 
 
     pub block_at_most : (k : ℕ) (b : Block) → BlockCallees ok b → AtMost (RunsAll calls proc k b) (block_run_steps calls proc of k b) (block_steps most_of b)
     block_at_most k [] c v a e h = omega arith
-    block_at_most k (s ∷ rest) c v a e h =
+    block_at_most k (s ⨾ rest) c v a e h =
         row_at_most (Runs calls proc k s) (RunsAll calls proc (k + sites s) rest) (run_steps calls proc of k s) (block_run_steps calls proc of (k + sites s) rest) (steps most_of s) (block_steps most_of rest) (steps_at_most k s c.0) (block_at_most (k + sites s) rest c.1) v a e h

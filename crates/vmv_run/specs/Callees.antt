@@ -2,7 +2,7 @@
 use Rattle.std.specs.Prelude.{MatchBool, List, [], ◌∷◌, ⊤}
 use Rattle.std.specs.Str.{bytes_eq}
 use Rattle.vmv_tree.specs.declared.name.Name.{Name}
-use Rattle.vmv_tree.specs.Tree.{Stmt, copy, compute, call, assert, choose, repeat, Block, [], ◌∷◌, Item, outside, helper, entry}
+use Rattle.vmv_tree.specs.Tree.{Stmt, copy, compute, call, assert, choose, repeat, Block, [], ◌⨾◌, Item, outside, helper, entry}
 
 -- each callee is one of these
 abbrev mutual
@@ -16,7 +16,7 @@ abbrev mutual
 
   pub BlockCallees : (Name → Type 0) → Block → Type 0
   BlockCallees ok [] = ⊤
-  BlockCallees ok (s ∷ rest) = Callees ok s × BlockCallees ok rest
+  BlockCallees ok (s ⨾ rest) = Callees ok s × BlockCallees ok rest
 
 abbrev pub ItemCallees : (Name → Type 0) → Item → Type 0
 ItemCallees ok (outside name arity) = ⊤

@@ -3,7 +3,7 @@ use Rattle.std.specs.Prelude.{ℕ, zero, suc, ◌+◌, ℤ, pos, int_lt, Bool, t
 use Rattle.std.proofs.Common.{inl, inr}
 use Rattle.std.specs.Str.{bytes_eq}
 use Rattle.vmv_tree.specs.declared.name.Name.{Name}
-use Rattle.vmv_tree.specs.Tree.{Stmt, copy, compute, call, assert, choose, repeat, Block, [], ◌∷◌, Body, Item, outside, helper, entry}
+use Rattle.vmv_tree.specs.Tree.{Stmt, copy, compute, call, assert, choose, repeat, Block, [], ◌⨾◌, Body, Item, outside, helper, entry}
 use Rattle.vmv_tree.specs.Run.{Valuation, Answers, End, next, fail, Outcome, Does, InARow, Turns, Calls, Runs, RunsAll, RunsBody, RunsItem, RunsAbove, Run, value, assign, holds, sites, block_sites, turns_of, start, name_of}
 
 -- how many steps there are where this was done
@@ -38,7 +38,7 @@ module _ (calls : Calls) (proc : Name) (of : (callee : Name) (words : List ℤ) 
 
     pub block_run_steps : (k : ℕ) (b : Block) → Counts (RunsAll calls proc k b)
     block_run_steps k [] v a e h = 0
-    block_run_steps k (s ∷ rest) v a e h = in_a_row (Runs calls proc k s) (RunsAll calls proc (k + sites s) rest) (run_steps k s) (block_run_steps (k + sites s) rest) v a e h
+    block_run_steps k (s ⨾ rest) v a e h = in_a_row (Runs calls proc k s) (RunsAll calls proc (k + sites s) rest) (run_steps k s) (block_run_steps (k + sites s) rest) v a e h
 
 -- the return is a step where it is come to
 abbrev pub return_step : End → ℕ
