@@ -5,3 +5,4 @@ pub mod RunSteps
 pub mod Counted
 pub mod Resolved
 pub mod OneRun
+pub mod Asked

@@ -1,3 +1,4 @@
 pub mod Callees
 pub mod Constant
 pub mod Steps
+pub mod Asked

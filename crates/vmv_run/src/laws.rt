@@ -4,8 +4,10 @@ ghost use Rattle.vmv_tree.specs.declared.name.Name.{Name};
 ghost use Rattle.vmv_tree.specs.declared.tree.Param.{Param};
 ghost use Rattle.vmv_tree.specs.Tree.{Item, entry, Body};
 ghost use Rattle.vmv_tree.specs.Run.{Answers, Outcome, Run};
+ghost use Rattle.vmv_tree.specs.Safe.{Environment, Safe};
 ghost use Rattle.vmv_tree.specs.Valid.{Valid};
 ghost use Rattle.vmv_tree.specs.Words.{IsWord};
+ghost use Rattle.vmv_run.specs.Asked.{AreOutside, AreSameFor};
 ghost use Rattle.vmv_run.specs.Constant.{OneRun};
 ghost use Rattle.vmv_run.specs.Steps.{steps_of_run};
 
@@ -24,4 +26,14 @@ pub fn runs_are_short()
 /// runs are one.
 pub fn answers_determine_a_run()
     ensures { (program : List Item) (proc : Name) (words : List ℤ) (answers more : Answers) (outcome end : Outcome) → Run program proc words answers outcome → Run program proc words (answers ++ more) end → (more ≡ []) × (outcome ≡ end) }
+{}
+
+/// Each answer of a run carries the name of an outside item of the program.
+pub fn answers_are_of_outside_items()
+    ensures { (program : List Item) (proc : Name) (words : List ℤ) (answers : Answers) (outcome : Outcome) → Run program proc words answers outcome → AreOutside program answers }
+{}
+
+/// What is safe for a program depends on the words of its outside names alone.
+pub fn outside_names_decide_safety()
+    ensures { (program : List Item) (env other : Environment) → AreSameFor program env other → Safe env program → Safe other program }
 {}

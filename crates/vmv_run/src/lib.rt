@@ -3,4 +3,7 @@
 
 mod laws;
 
-pub use laws::{answers_determine_a_run, one_constant_run, runs_are_short};
+pub use laws::{
+    answers_are_of_outside_items, answers_determine_a_run, one_constant_run,
+    outside_names_decide_safety, runs_are_short,
+};
