@@ -1,0 +1,4 @@
+pub mod RingLemmas
+pub mod SpellsLemmas
+pub mod NodesLemmas
+pub mod Walks
