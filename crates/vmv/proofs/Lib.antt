@@ -1,0 +1,8 @@
+pub mod Sound
+pub mod KnownRanges
+pub mod Results
+pub mod Rows
+pub mod ThreeWords
+pub mod FirstClass
+pub mod Outputs
+pub mod Verdict

@@ -1,0 +1,135 @@
+-- A printed verdict is right.
+use Rattle.std.proofs.Common.{◌≡◌, ◌≢◌, ◌⊎◌, inl, inr, ⊎_elim, ℕ, nat_lt, nat_eq, ◌==◌, eqb, Bool, true, false, if◌then◌else◌, MatchBool, Option, Some, List, [], ◌∷◌, ◌++◌, length, take, codes, refl, sym, ap, subst, arith, append_assoc, append-nil, ◌≤◌, ◌∙◌}
+use Rattle.std.proofs.lemmas.Bool.{eqb-true}
+use Rattle.std.specs.List.{starts_with}
+use Rattle.std.proofs.lemmas.List.{length-take, take-take, take_all}
+use Rattle.std.proofs.lemmas.Slice.Eq.{bytes_eq-Decides}
+use Rattle.vmv_tree.specs.declared.name.Name.{Name}
+use Rattle.vmv_tree.specs.Tree.{Item, outside, helper, entry}
+use Rattle.vmv_tree.specs.Safe.{Environment, Safe}
+use Rattle.vmv_text.specs.Grammar.{IsText}
+use Rattle.vmv_text.specs.First.{IsFirst}
+use Rattle.vmv_text.proofs.OneTree.{text_once}
+use Rattle.vmv_edge.specs.Outside.{IsAsTold, Appended, AppendedFront}
+use Rattle.vmv.specs.Report.{line, alarm_count, verdict_line, counts_line, alarm_lines, report, IsReport}
+use Rattle.vmv.specs.Command.{text_most, IsReview, IsLine, NotFirst, ReviewsTexts, Reviews, ReadReview, SaysRelativelyCorrect, VerdictHolds}
+use Rattle.vmv.proofs.Sound.{clean_safe}
+
+-- what a front of a text begins with, the text begins with
+front_begins : (said : List ℕ) (n : ℕ) (text : List ℕ) → starts_with nat_eq (take n text) said ≡ true → starts_with nat_eq text said ≡ true
+front_begins said n text h =
+    let e : said ≡ take (length said) (take n text) = (bytes_eq-Decides said (take (length said) (take n text))).0 h in
+    let short : length said ≤ n = omega (arith, ap length e, length-take (length said) (take n text), length-take n text) in
+    let same : take (length said) (take n text) ≡ take (length said) text = take-take (length said) n text short in
+    (bytes_eq-Decides said (take (length said) text)).1 (e ∙ same)
+
+-- the verdict line of a report with alarms is another
+says_none : (none : Bool) (rest : List ℕ) → starts_with nat_eq (line (if none then codes "verdict relatively correct" else codes "verdict alarms") ++ rest) (line (codes "verdict relatively correct")) ≡ true → none ≡ true
+says_none true rest h = refl
+says_none false rest h = absurd (cc)
+
+report_says : (name : Name) (clean : List Bool) → SaysRelativelyCorrect (report name clean) → alarm_count clean ≡ 0
+report_says name clean h =
+    let joined = append_assoc (verdict_line clean) (counts_line clean) (alarm_lines name 1 clean) in
+    eqb-true (alarm_count clean) 0 (says_none (alarm_count clean == 0) (counts_line clean ++ alarm_lines name 1 clean) (subst SaysRelativelyCorrect joined h))
+
+-- a report that says so is of a program that is safe in every environment
+report_safe : (program : List Item) (printed : List ℕ) (status : ℕ) → IsReport program printed status → SaysRelativelyCorrect printed → (env : Environment) → Safe env program
+report_safe [] printed status h said env = absurd h
+report_safe (outside f arity ∷ more ∷ items) printed status h said env = absurd h
+report_safe (helper f params body ∷ more ∷ items) printed status h said env = absurd h
+report_safe (entry f params body ∷ more ∷ items) printed status h said env = absurd h
+report_safe (outside f arity ∷ []) printed status h said env = absurd h
+report_safe (helper f params body ∷ []) printed status h said env = absurd h
+report_safe (entry f params body ∷ []) printed status (clean, reviewed, is, meant) said env =
+    clean_safe env f params body clean reviewed.0 reviewed.1 (report_says f clean (subst SaysRelativelyCorrect is said))
+
+not_said : (text printed : List ℕ) → printed ≡ text → starts_with nat_eq text (line (codes "verdict relatively correct")) ≡ false → SaysRelativelyCorrect printed → ⊥
+not_said text printed is other said = let yes = subst SaysRelativelyCorrect is said in cc
+
+texts_safe : (base revision : List ℕ) (R : List Item) (printed : List ℕ) (status : ℕ) → ReviewsTexts base revision printed status → IsText revision R →
+    SaysRelativelyCorrect printed → (env : Environment) → Safe env R
+texts_safe base revision R printed status h text said env =
+    ⊎_elim
+    (λ (none : NotFirst base × IsLine (codes "base: not built yet") 4 printed status).
+    absurd (not_said (line (codes "base: not built yet")) printed none.1.0 refl said))
+    (λ (some : (B : List Item) × IsText base B × IsFirst B ×
+    ((NotFirst revision × IsLine (codes "revision: not built yet") 4 printed status)
+    ⊎ ((P : List Item) × IsText revision P × IsFirst P × IsReport P printed status))).
+    ⊎_elim
+    (λ (none : NotFirst revision × IsLine (codes "revision: not built yet") 4 printed status).
+    absurd (not_said (line (codes "revision: not built yet")) printed none.1.0 refl said))
+    (λ (found : (P : List Item) × IsText revision P × IsFirst P × IsReport P printed status).
+    subst (λ (P : List Item). Safe env P) (text_once revision found.0 R found.1 text) (report_safe found.0 printed status found.3 said env))
+    some.3)
+    h
+
+cases : (b : Bool) (P Q : Type 0) → MatchBool b P Q → P ⊎ Q
+cases true P Q h = inl h
+cases false P Q h = inr h
+
+reviews_safe : (base revision : List ℕ) (R : List Item) (printed : List ℕ) (status : ℕ) → Reviews base revision printed status → IsText revision R →
+    SaysRelativelyCorrect printed → (env : Environment) → Safe env R
+reviews_safe base revision R printed status h text said env =
+    ⊎_elim
+    (λ (long : IsLine (codes "base: limit bytes found 1048577 most 1048576") 5 printed status).
+    absurd (not_said (line (codes "base: limit bytes found 1048577 most 1048576")) printed long.0 refl said))
+    (λ (short : MatchBool (nat_lt text_most (length revision)) (IsLine (codes "revision: limit bytes found 1048577 most 1048576") 5 printed status) (ReviewsTexts base revision printed status)).
+    ⊎_elim
+    (λ (long : IsLine (codes "revision: limit bytes found 1048577 most 1048576") 5 printed status).
+    absurd (not_said (line (codes "revision: limit bytes found 1048577 most 1048576")) printed long.0 refl said))
+    (λ (both : ReviewsTexts base revision printed status). texts_safe base revision R printed status both text said env)
+    (cases (nat_lt text_most (length revision)) _ _ short))
+    (cases (nat_lt text_most (length base)) _ _ h)
+
+-- what was printed is a front of the text
+abbrev pub IsFront : List ℕ → List ℕ → Type 0
+IsFront printed text = (n : ℕ) × (printed ≡ take n text)
+
+append_same : (old xs ys : List ℕ) → old ++ xs ≡ old ++ ys → xs ≡ ys
+append_same [] xs ys e = e
+append_same (x ∷ old) xs ys e = append_same old xs ys (cc)
+
+told_front : (before after : Option (List ℕ)) (old printed text : List ℕ) → before ≡ Some old → after ≡ Some (old ++ printed) → AppendedFront before text after → IsFront printed text
+told_front before after old printed text was is (n, h) =
+    let h' : Appended (Some old) (take n text) (Some (old ++ printed)) = rw (was, is) at h in
+    (n, append_same old printed (take n text) h')
+
+-- whatever front of a review was printed, the verdict that it says holds
+pub verdict_holds : (words : List (List ℕ)) (told : List ℕ → Option (List ℕ)) (before after : Option (List ℕ)) (base_name revision_name text : List ℕ) (status : ℕ) →
+    IsReview words base_name revision_name → ReadReview (told base_name) (told revision_name) text status → AppendedFront before text after →
+    VerdictHolds words told before after
+verdict_holds words told before after base_name revision_name text status review (read_base, read_revision, base_told, revision_told, reviews) taken
+    b r base revision old printed B R review' told_b told_r text_b text_r was is said env covers covers' safe =
+    let same : revision_name ≡ r = third_word base_name revision_name b r (sym review.words_are ∙ review'.words_are) in
+    let told' : told revision_name ≡ Some revision = ap told same ∙ told_r in
+    let read : read_revision ≡ revision = subst (λ (t : Option (List ℕ)). IsAsTold t read_revision) told' revision_told in
+    let front = told_front before after old printed text was is taken in
+    let said' : SaysRelativelyCorrect text = front_begins (line (codes "verdict relatively correct")) front.0 text (subst SaysRelativelyCorrect front.1 said) in
+    reviews_safe read_base read_revision R text status reviews (subst (λ (t : List ℕ). IsText t R) (sym read) text_r) said' env
+  where
+    third_word : (x y z w : List ℕ) → ◌≡◌ {A = List (List ℕ)} (codes "review" ∷ x ∷ y ∷ []) (codes "review" ∷ z ∷ w ∷ []) → y ≡ w
+    third_word x y z w e = cc
+
+-- where nothing was printed, no verdict was
+pub nothing_said : (before : Option (List ℕ)) (old printed : List ℕ) → before ≡ Some old → before ≡ Some (old ++ printed) → SaysRelativelyCorrect printed → ⊥
+nothing_said before old printed was is said =
+    let e : old ++ [] ≡ old ++ printed = append-nil old ∙ same_some old (old ++ printed) (sym was ∙ is) in
+    let none : [] ≡ printed = append_same old [] printed e in
+    not_said [] printed (sym none) refl said
+  where
+    same_some : (x y : List ℕ) → Some x ≡ Some y → x ≡ y
+    same_some x y e = cc
+
+whole_front : (before after : Option (List ℕ)) (text : List ℕ) → Appended before text after → AppendedFront before text after
+whole_front before after text h = (length text, subst (λ (t : List ℕ). Appended before t after) (sym (take_all (length text) text (omega arith))) h)
+
+either_front : (b : Bool) (status : ℕ) (before after : Option (List ℕ)) (text : List ℕ) → eqb status 7 ≡ b → (status ≡ 7 → AppendedFront before text after) →
+    (status ≢ 7 → Appended before text after) → AppendedFront before text after
+either_front true status before after text e front whole = front (eqb-true status 7 e)
+either_front false status before after text e front whole = whole_front before after text (whole (λ h. let t : eqb status 7 ≡ true = rw h refl in cc))
+
+-- whether or not all of it was printed, a front of it was
+pub some_front : (status : ℕ) (before after : Option (List ℕ)) (text : List ℕ) → (status ≡ 7 → AppendedFront before text after) →
+    (status ≢ 7 → Appended before text after) → AppendedFront before text after
+some_front status before after text front whole = either_front (eqb status 7) status before after text refl front whole

@@ -1,0 +1,4 @@
+pub mod Ranges
+pub mod Report
+pub mod Known
+pub mod Command

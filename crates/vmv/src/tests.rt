@@ -1,0 +1,242 @@
+use crate::run;
+use std::alloc::{AllocError, Global};
+use std::process::Abort;
+use std::test::Fail;
+use std::thread::Threads;
+use vmv_edge::{FaultlessDoor, FaultlessShelf, FaultlessVault, MemoryShelf, MemorySink, Shelf};
+
+const SUM: &str = "entry e() { var x; x = 2 + 3; assert x == 5; return x; }";
+
+const OFF: &str = "entry e() { var x; x = 2 + 3; assert x == 6; return x; }";
+
+const DOUBLE: &str = "entry e(n: 1..9) { var x; x = n * 2; assert x <= 18; return x; }";
+
+const TWO: &str = "entry e() { return 0; } entry f() { return 0; }";
+
+const CORRECT: &[u8] = b"verdict relatively correct\nrows clean 2 hidden 0 regression 0 alarm 0\n";
+
+const ALARM: &[u8] = b"verdict alarms\nrows clean 1 hidden 0 regression 0 alarm 1\n  alarm e e#2\n";
+
+const USAGE: &[u8] =
+    b"usage: vmv review BASE REV [--workers N] [--proof] | baseline BASE [--workers N] | recheck BASE REV PROOF | replay REV WITNESS | sample NUMBER [--workers N] | serve ADDRESS STORE COUNT [--workers N]\n";
+
+const REVIEW: [&str; 3] = ["review", "base", "revision"];
+
+// What a command is to print, and its status.
+#[derive(Clone, Copy)]
+struct Expected {
+    text: &'static [u8],
+    status: u8,
+}
+
+// Does the command that the words say, and compares what is printed.
+fn prints<F: Shelf>(
+    rt: &(impl Threads + Sync + Abort),
+    alloc: Global,
+    words: &[&str],
+    shelf: &mut F,
+    mut out: MemorySink,
+    expected: &Expected,
+) -> Result<(), Fail> {
+    let mut given = Vec::new(alloc);
+    for word in words {
+        given.push(String::from_str(alloc, word)?)?;
+    }
+    let status = run(
+        rt,
+        alloc,
+        &given,
+        shelf,
+        &mut out,
+        &mut FaultlessVault,
+        &mut FaultlessDoor,
+    );
+    assert_eq!(rt; status, expected.status);
+    assert_eq!(rt; out.bytes(), expected.text);
+    Ok(())
+}
+
+// A sink that takes whatever is written, or so many bytes a call.
+fn sink(alloc: Global, most: usize) -> Result<MemorySink, AllocError> {
+    MemorySink::new(alloc, 4096, most, Vec::new(alloc))
+}
+
+// A shelf with the two texts of a review.
+fn shelf(alloc: Global, base: &str, revision: &str) -> Result<FaultlessShelf, AllocError> {
+    let mut shelf = FaultlessShelf::new(alloc);
+    shelf.hold(alloc, "base", base.as_bytes())?;
+    shelf.hold(alloc, "revision", revision.as_bytes())?;
+    Ok(shelf)
+}
+
+// Reviews the two texts, and compares what is printed.
+fn reviews(
+    rt: &(impl Threads + Sync + Abort),
+    alloc: Global,
+    base: &str,
+    revision: &str,
+    expected: &Expected,
+) -> Result<(), Fail> {
+    let mut shelf = shelf(alloc, base, revision)?;
+    prints(rt, alloc, &REVIEW, &mut shelf, sink(alloc, 4096)?, expected)
+}
+
+#[test]
+fn straight_line_entries(rt: HostRuntime) -> Result<(), Fail> {
+    let correct = Expected {
+        text: CORRECT,
+        status: 0,
+    };
+    let alarm = Expected {
+        text: ALARM,
+        status: 1,
+    };
+    reviews(&rt, rt.alloc(), SUM, OFF, &alarm)?;
+    reviews(&rt, rt.alloc(), SUM, SUM, &correct)?;
+    reviews(&rt, rt.alloc(), DOUBLE, DOUBLE, &correct)
+}
+
+#[test]
+fn texts_that_are_not_built_yet(rt: HostRuntime) -> Result<(), Fail> {
+    let base = Expected {
+        text: b"base: not built yet\n",
+        status: 4,
+    };
+    let revision = Expected {
+        text: b"revision: not built yet\n",
+        status: 4,
+    };
+    reviews(&rt, rt.alloc(), "entry e() {", SUM, &base)?;
+    reviews(&rt, rt.alloc(), TWO, "", &base)?;
+    reviews(&rt, rt.alloc(), SUM, TWO, &revision)
+}
+
+#[test]
+fn words_of_no_command(rt: HostRuntime) -> Result<(), Fail> {
+    let usage = Expected {
+        text: USAGE,
+        status: 9,
+    };
+    let alloc = rt.alloc();
+    let mut shelf = shelf(alloc, SUM, SUM)?;
+    prints(&rt, alloc, &[], &mut shelf, sink(alloc, 4096)?, &usage)?;
+    prints(
+        &rt,
+        alloc,
+        &["review", "a"],
+        &mut shelf,
+        sink(alloc, 4096)?,
+        &usage,
+    )?;
+    prints(
+        &rt,
+        alloc,
+        &["review", "base", "-r"],
+        &mut shelf,
+        sink(alloc, 4096)?,
+        &usage,
+    )?;
+    prints(
+        &rt,
+        alloc,
+        &["review", "a", "b", "c"],
+        &mut shelf,
+        sink(alloc, 4096)?,
+        &usage,
+    )?;
+    prints(
+        &rt,
+        alloc,
+        &["sample", "7", "8"],
+        &mut shelf,
+        sink(alloc, 4096)?,
+        &usage,
+    )
+}
+
+#[test]
+fn reads_that_fail(rt: HostRuntime) -> Result<(), Fail> {
+    let alloc = rt.alloc();
+    let failed = Expected {
+        text: b"",
+        status: 6,
+    };
+    for read in 1..3u64 {
+        let mut shelf = MemoryShelf::new(alloc, vec![in alloc; read]?);
+        shelf.hold(alloc, "base", SUM.as_bytes())?;
+        shelf.hold(alloc, "revision", OFF.as_bytes())?;
+        prints(&rt, alloc, &REVIEW, &mut shelf, sink(alloc, 4096)?, &failed)?;
+    }
+    Ok(())
+}
+
+#[test]
+fn writes_that_fail(rt: HostRuntime) -> Result<(), Fail> {
+    let alloc = rt.alloc();
+    let failed = Expected {
+        text: b"",
+        status: 7,
+    };
+    let mut shelf = shelf(alloc, SUM, OFF)?;
+    let refuses = MemorySink::new(alloc, 4096, 4096, vec![in alloc; 1u64]?)?;
+    prints(&rt, alloc, &REVIEW, &mut shelf, refuses, &failed)?;
+    prints(&rt, alloc, &REVIEW, &mut shelf, sink(alloc, 0)?, &failed)?;
+    let front = Expected {
+        text: b"verdict",
+        status: 7,
+    };
+    let stops = MemorySink::new(alloc, 4096, 7, vec![in alloc; 2u64]?)?;
+    prints(&rt, alloc, &REVIEW, &mut shelf, stops, &front)?;
+    let alarm = Expected {
+        text: ALARM,
+        status: 1,
+    };
+    prints(&rt, alloc, &REVIEW, &mut shelf, sink(alloc, 1)?, &alarm)
+}
+
+#[test]
+fn texts_that_are_too_long(rt: HostRuntime) -> Result<(), Fail> {
+    let alloc = rt.alloc();
+    let base = Expected {
+        text: b"base: limit bytes found 1048577 most 1048576\n",
+        status: 5,
+    };
+    let revision = Expected {
+        text: b"revision: limit bytes found 1048577 most 1048576\n",
+        status: 5,
+    };
+    let built = Expected {
+        text: b"revision: not built yet\n",
+        status: 4,
+    };
+    let long = vec![in alloc; b' '; 1_048_577]?;
+    let longest = vec![in alloc; b' '; 1_048_576]?;
+    let mut shelf = FaultlessShelf::new(alloc);
+    shelf.hold(alloc, "long", &long)?;
+    shelf.hold(alloc, "longest", &longest)?;
+    shelf.hold(alloc, "sum", SUM.as_bytes())?;
+    prints(
+        &rt,
+        alloc,
+        &["review", "long", "longest"],
+        &mut shelf,
+        sink(alloc, 4096)?,
+        &base,
+    )?;
+    prints(
+        &rt,
+        alloc,
+        &["review", "longest", "long"],
+        &mut shelf,
+        sink(alloc, 4096)?,
+        &revision,
+    )?;
+    prints(
+        &rt,
+        alloc,
+        &["review", "sum", "longest"],
+        &mut shelf,
+        sink(alloc, 4096)?,
+        &built,
+    )
+}
