@@ -1,3 +1,14 @@
 pub mod Four
 pub mod Rel
 pub mod Range
+pub mod Bounds
+pub mod Change
+pub mod Zone
+pub mod Operand
+pub mod Ends
+pub mod Confine
+pub mod Step
+pub mod Read
+pub mod Points
+pub mod Round
+pub mod Args

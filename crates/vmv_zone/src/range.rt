@@ -5,6 +5,7 @@ ghost use Rattle.vmv_zone.specs.Four.{least_of, greatest_of};
 ghost use Rattle.vmv_zone.specs.Rel.{Meets};
 ghost use Rattle.vmv_zone.specs.Range.{IsIn};
 
+use crate::four::{greatest, least};
 use crate::rel::ZoneRel;
 
 /// The words from `lo` to `hi`, both included; none where `lo` is above `hi`.
@@ -76,20 +77,6 @@ fn word(number: i128) -> Option<i64>
     } else {
         Some(number as i64)
     }
-}
-
-/// The least of four numbers.
-fn least(a: i128, b: i128, c: i128, d: i128) -> i128
-    ensures { result ≡ least_of a b c d }
-{
-    a.min(b).min(c.min(d))
-}
-
-/// The greatest of four numbers.
-fn greatest(a: i128, b: i128, c: i128, d: i128) -> i128
-    ensures { result ≡ greatest_of a b c d }
-{
-    a.max(b).max(c.max(d))
 }
 
 /// The product of two words.

@@ -1,0 +1,16 @@
+use Rattle.std.proofs.Common.{arith, rules, FitsSigned}
+use Rattle.std.specs.Int.{w128}
+use Rattle.std.proofs.lemmas.Int.{to_z-of_z}
+use Rattle.vmv_zone.proofs.Filled.{tabulated_none, tabulated_more, tabulated_done, top_in_reach}
+use Rattle.vmv_zone.proofs.tables.top_bounds.Goals as goal
+
+pub loop-place-init : goal.loop-place-init
+loop-place-init c = tabulated_none _ _
+
+pub loop-place-preserved : goal.loop-place-preserved
+loop-place-preserved c =
+    let fits : FitsSigned w128 c.top_inside.result = search rules in
+    simp to_z-of_z (tabulated_more _ _ _ _ _ top_in_reach (omega arith) c.loop-place.invariant c.top_inside.ensures)
+
+pub returns : goal.returns
+returns c = tabulated_done _ _ _ _ c.requires (omega arith) c.loop-place.invariant

@@ -1,0 +1,180 @@
+ghost use Rattle.std.specs.Prelude.{◌≡◌, ◌+◌, ◌≤◌, neg_ℤ};
+ghost use Rattle.vmv_zone.specs.Zone.{vars_of, bound_of, IsNormal};
+ghost use Rattle.vmv_zone.specs.Operand.{IsOperand, low, up};
+ghost use Rattle.vmv_zone.specs.Confine.{Confines};
+ghost use Rattle.vmv_zone.specs.Step.{Computed, IsSum, IsDifference, IsProduct, IsQuotient, IsRemainder};
+
+use crate::ends::{Ends, greatest_remainder, least_remainder, products, quotients};
+use crate::operand::{ZERO, ZoneOp, ZoneOperand};
+use crate::zone::Zone;
+
+impl Zone {
+    /// This state with the fresh variable equal to what the operation gives.
+    pub(crate) fn computed(
+        self,
+        before: &Zone,
+        fresh: ZoneOperand,
+        op: ZoneOp,
+        left: ZoneOperand,
+        right: ZoneOperand,
+    ) -> Zone
+        requires fresh { IsOperand (vars_of self) fresh }
+        requires vars { vars_of self ≡ vars_of before.now + 1 }
+        requires normal { IsNormal before.now }
+        requires left { IsOperand (vars_of before.now) left }
+        requires right { IsOperand (vars_of before.now) right }
+        ensures { Confines (vars_of self) (λ n. Computed op before.now n fresh left right) self result }
+    {
+        match op {
+            ZoneOp::Add => self.summed(before, fresh, left, right),
+            ZoneOp::Sub => self.subtracted(before, fresh, left, right),
+            ZoneOp::Mul => self.multiplied(before, fresh, left, right),
+            ZoneOp::Div => self.divided(before, fresh, left, right),
+            ZoneOp::Rem => self.reduced(before, fresh, left, right),
+        }
+    }
+
+    /// The least and the greatest value of the operand.
+    pub(crate) fn ends(&self, operand: ZoneOperand) -> Ends
+        requires normal { IsNormal self.now }
+        requires operand { IsOperand (vars_of self.now) operand }
+        ensures lo { result.lo ≡ low self.now operand }
+        ensures hi { result.hi ≡ up self.now operand }
+    {
+        match operand {
+            ZoneOperand::Lit(c) => Ends { lo: c, hi: c },
+            ZoneOperand::Var(y) => self.variable_ends(y),
+        }
+    }
+
+    /// The least and the greatest value of the variable.
+    fn variable_ends(&self, y: u8) -> Ends
+        requires normal { IsNormal self.now }
+        requires variable { 1 ≤ y }
+        requires y { y ≤ vars_of self.now }
+        ensures lo { result.lo ≡ neg_ℤ (bound_of self.now 0 y) }
+        ensures hi { result.hi ≡ bound_of self.now y 0 }
+    {
+        Ends {
+            lo: (-self.bound(0, y)) as i64,
+            hi: self.bound(y, 0) as i64,
+        }
+    }
+
+    /// This state with the fresh variable equal to the sum.
+    fn summed(
+        self,
+        before: &Zone,
+        fresh: ZoneOperand,
+        left: ZoneOperand,
+        right: ZoneOperand,
+    ) -> Zone
+        requires fresh { IsOperand (vars_of self) fresh }
+        requires vars { vars_of self ≡ vars_of before.now + 1 }
+        requires normal { IsNormal before.now }
+        requires left { IsOperand (vars_of before.now) left }
+        requires right { IsOperand (vars_of before.now) right }
+        ensures { Confines (vars_of self) (λ n. IsSum before.now n fresh left right) self result }
+    {
+        let x = before.ends(left);
+        let y = before.ends(right);
+        let lo = x.lo as i128 + y.lo as i128;
+        let hi = x.hi as i128 + y.hi as i128;
+        self.spanned(fresh, ZERO, lo, hi)
+            .spanned(fresh, left, y.lo as i128, y.hi as i128)
+            .spanned(fresh, right, x.lo as i128, x.hi as i128)
+    }
+
+    /// This state with the fresh variable equal to the difference.
+    fn subtracted(
+        self,
+        before: &Zone,
+        fresh: ZoneOperand,
+        left: ZoneOperand,
+        right: ZoneOperand,
+    ) -> Zone
+        requires fresh { IsOperand (vars_of self) fresh }
+        requires vars { vars_of self ≡ vars_of before.now + 1 }
+        requires normal { IsNormal before.now }
+        requires left { IsOperand (vars_of before.now) left }
+        requires right { IsOperand (vars_of before.now) right }
+        ensures { Confines (vars_of self) (λ n. IsDifference before.now n fresh left right) self result }
+    {
+        let y = before.ends(right);
+        let hi = before.difference(left, right);
+        let lo = -before.difference(right, left);
+        self.spanned(fresh, ZERO, lo, hi)
+            .spanned(fresh, left, -(y.hi as i128), -(y.lo as i128))
+    }
+
+    /// This state with the fresh variable equal to the product.
+    fn multiplied(
+        self,
+        before: &Zone,
+        fresh: ZoneOperand,
+        left: ZoneOperand,
+        right: ZoneOperand,
+    ) -> Zone
+        requires fresh { IsOperand (vars_of self) fresh }
+        requires normal { IsNormal before.now }
+        requires left { IsOperand (vars_of before.now) left }
+        requires right { IsOperand (vars_of before.now) right }
+        ensures { Confines (vars_of self) (λ n. IsProduct before.now n fresh left right) self result }
+    {
+        let x = before.ends(left);
+        let y = before.ends(right);
+        let all = products(x, y);
+        let x_marked = before.nonzero(left);
+        let y_marked = before.nonzero(right);
+        self.spanned(fresh, ZERO, all.lo, all.hi)
+            .nonzero_where(fresh, x_marked & y_marked)
+    }
+
+    /// This state with the fresh variable equal to the quotient, and the divisor nonzero.
+    fn divided(
+        self,
+        before: &Zone,
+        fresh: ZoneOperand,
+        left: ZoneOperand,
+        right: ZoneOperand,
+    ) -> Zone
+        requires fresh { IsOperand (vars_of self) fresh }
+        requires vars { vars_of self ≡ vars_of before.now + 1 }
+        requires normal { IsNormal before.now }
+        requires left { IsOperand (vars_of before.now) left }
+        requires right { IsOperand (vars_of before.now) right }
+        ensures { Confines (vars_of self) (λ n. IsQuotient before.now n fresh left right) self result }
+    {
+        let x = before.ends(left);
+        let y = before.ends(right);
+        match quotients(x, y) {
+            None => Zone::none(self.vars),
+            Some(all) => self
+                .made_nonzero(right)
+                .spanned(fresh, ZERO, all.lo, all.hi),
+        }
+    }
+
+    /// This state with the fresh variable equal to the remainder, and the divisor nonzero.
+    fn reduced(
+        self,
+        before: &Zone,
+        fresh: ZoneOperand,
+        left: ZoneOperand,
+        right: ZoneOperand,
+    ) -> Zone
+        requires fresh { IsOperand (vars_of self) fresh }
+        requires vars { vars_of self ≡ vars_of before.now + 1 }
+        requires normal { IsNormal before.now }
+        requires left { IsOperand (vars_of before.now) left }
+        requires right { IsOperand (vars_of before.now) right }
+        ensures { Confines (vars_of self) (λ n. IsRemainder before.now n fresh left right) self result }
+    {
+        let x = before.ends(left);
+        let y = before.ends(right);
+        let size = y.size();
+        let lo = least_remainder(x.lo, size);
+        let hi = greatest_remainder(x.hi, size);
+        self.made_nonzero(right).spanned(fresh, ZERO, lo, hi)
+    }
+}

@@ -1,0 +1,109 @@
+ghost use Rattle.std.specs.Prelude.{◌≡◌, ◌<◌, ◌==◌, ◌≤◌, ℤ, ℕ, ◌↔◌, IsTrue, ◌≤ℤ◌, pos, slice_index_or};
+ghost use Rattle.std.specs.Int.{int_max};
+ghost use Rattle.vmv_zone.specs.Bounds.{IsMarkedIn, bound_at};
+
+use crate::paths::CELLS;
+use crate::zone::Zone;
+
+impl Zone {
+    ghost use Rattle.vmv_zone.specs.Zone.{vars_of, IsBelow, IsJoin};
+
+    /// Whether this state is below the other.
+    pub fn below(&self, other: &Zone) -> bool
+        requires { vars_of self.now ≡ vars_of other.now }
+        ensures { IsTrue result ↔ IsBelow self.now other.now }
+    {
+        if self.bottom {
+            return true;
+        }
+        if other.bottom {
+            return false;
+        }
+        let vars = self.vars as usize;
+        bounds_below(&self.bounds, &other.bounds, vars)
+            && marks_below(&self.marks, &other.marks, vars)
+    }
+
+    /// The least state above both: the greater bounds, and the marks of both.
+    pub fn join(self, other: Zone) -> Zone
+        requires { vars_of self ≡ vars_of other }
+        ensures { IsJoin self other result }
+    {
+        if self.bottom {
+            return other;
+        }
+        if other.bottom {
+            return self;
+        }
+        let mut bounds = self.bounds;
+        raise(&mut bounds, &other.bounds);
+        let mut marks = self.marks;
+        keep_shared(&mut marks, &other.marks);
+        Zone {
+            vars: self.vars,
+            bottom: false,
+            bounds,
+            marks,
+        }
+    }
+}
+
+/// Whether each bound on `i` is at most the other.
+fn row_below(bounds: &[i128; CELLS], other: &[i128; CELLS], vars: usize, i: usize) -> bool
+    requires vars { vars ≤ 17 }
+    requires i { i ≤ vars }
+    ensures { IsTrue result ↔ ((j : ℕ) → j ≤ vars → bound_at bounds.now i j ≤ℤ bound_at other.now i j) }
+{
+    for j in 0..vars + 1 {
+        if bounds[18 * i + j] > other[18 * i + j] {
+            return false;
+        }
+    }
+    true
+}
+
+/// Whether each bound is at most the other.
+fn bounds_below(bounds: &[i128; CELLS], other: &[i128; CELLS], vars: usize) -> bool
+    requires vars { vars ≤ 17 }
+    ensures { IsTrue result ↔ ((i : ℕ) → i ≤ vars → (j : ℕ) → j ≤ vars → bound_at bounds.now i j ≤ℤ bound_at other.now i j) }
+{
+    for i in 0..vars + 1 {
+        if !row_below(bounds, other, vars, i) {
+            return false;
+        }
+    }
+    true
+}
+
+/// Whether each mark of the other is one of these.
+fn marks_below(marks: &[bool; 18], other: &[bool; 18], vars: usize) -> bool
+    requires vars { vars ≤ 17 }
+    ensures { IsTrue result ↔ ((i : ℕ) → 1 ≤ i → i ≤ vars → IsMarkedIn other.now i → IsMarkedIn marks.now i) }
+{
+    for i in 1..vars + 1 {
+        if other[i] && !marks[i] {
+            return false;
+        }
+    }
+    true
+}
+
+/// Raises each bound to the other.
+fn raise(bounds: &mut [i128; CELLS], other: &[i128; CELLS])
+    ensures { (k : ℕ) → slice_index_or bounds.new k (pos 0) ≡ int_max (slice_index_or bounds.old k (pos 0)) (slice_index_or other.now k (pos 0)) }
+{
+    for place in 0..CELLS {
+        bounds[place] = bounds[place].max(other[place]);
+    }
+}
+
+/// Keeps the marks that the other has too.
+fn keep_shared(marks: &mut [bool; 18], other: &[bool; 18])
+    ensures { (i : ℕ) → IsMarkedIn marks.new i ↔ (IsMarkedIn marks.old i × IsMarkedIn other.now i) }
+{
+    for i in 0..18 {
+        if !other[i] {
+            marks[i] = false;
+        }
+    }
+}

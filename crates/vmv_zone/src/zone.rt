@@ -1,0 +1,138 @@
+ghost use Rattle.std.specs.Prelude.{◌≡◌, ◌≤◌, ℕ, IsTrue, length};
+ghost use Rattle.vmv_zone.specs.Bounds.{AreInReach, AreUnderTop, AreZeroOutside, AreOnVariables, AreBlank};
+
+use crate::paths::CELLS;
+use crate::tables::top_bounds;
+
+/// An abstract state: bounds on the differences of up to 16 variables and 0, with a mark on each variable that is
+/// known not to be 0; or Bottom, which has no point.
+///
+/// Thing 0 is the constant 0, and things 1 to `vars` are the variables. Two states that tell the same are equal.
+#[derive(Clone, Copy)]
+pub struct Zone {
+    pub(crate) vars: u8,
+    pub(crate) bottom: bool,
+    pub(crate) bounds: [i128; CELLS],
+    pub(crate) marks: [bool; 18],
+    pub ghost few: { vars ≤ 17 },
+    pub ghost full: { length bounds ≡ 324 },
+    pub ghost reach: { AreInReach bounds },
+    pub ghost topped: { AreUnderTop vars bounds },
+    pub ghost outside: { AreZeroOutside vars bounds },
+    pub ghost sized: { length marks ≡ 18 },
+    pub ghost variables: { AreOnVariables vars marks },
+    pub ghost emptied: { IsTrue bottom → AreBlank bounds marks },
+}
+
+impl Zone {
+    ghost use Rattle.std.specs.Prelude.{◌≡◌, ◌<◌, ℤ, IsFalse, ◌↔◌, negsuc, ◌^◌, ◌-◌, ◌≤ℤ◌};
+    ghost use Rattle.vmv_zone.specs.Bounds.{top_bound};
+    ghost use Rattle.vmv_zone.specs.Zone.{vars_of, IsBottom, NotBottom, bound_of, mark_of, IsTop, ChangesBound, AddsMark};
+
+    /// The state of all words: top's bounds and no marks. Takes at most 16 variables.
+    pub fn top(vars: u8) -> Zone
+        requires { vars ≤ 16 }
+        ensures vars { vars_of result ≡ vars }
+        ensures top { IsTop result }
+    {
+        let bounds = top_bounds(vars as usize);
+        Zone {
+            vars,
+            bottom: false,
+            bounds,
+            marks: [false; 18],
+        }
+    }
+
+    /// The state with no point. Takes at most 16 variables.
+    pub fn bottom(vars: u8) -> Zone
+        requires { vars ≤ 16 }
+        ensures vars { vars_of result ≡ vars }
+        ensures bottom { IsBottom result }
+    {
+        Zone::none(vars)
+    }
+
+    /// The state with no point, over one variable more too.
+    pub(crate) fn none(vars: u8) -> Zone
+        requires { vars ≤ 17 }
+        ensures vars { vars_of result ≡ vars }
+        ensures bottom { IsBottom result }
+    {
+        Zone {
+            vars,
+            bottom: true,
+            bounds: [0; CELLS],
+            marks: [false; 18],
+        }
+    }
+
+    /// How many variables the state has.
+    pub fn vars(&self) -> u8
+        ensures { result ≡ vars_of self.now }
+    {
+        self.vars
+    }
+
+    /// Whether the state is Bottom.
+    pub fn is_bottom(&self) -> bool
+        ensures { IsTrue result ↔ IsBottom self.now }
+    {
+        self.bottom
+    }
+
+    /// The bound on `i - j`.
+    pub fn bound(&self, i: u8, j: u8) -> i128
+        requires i { i ≤ vars_of self.now }
+        requires j { j ≤ vars_of self.now }
+        ensures { result ≡ bound_of self.now i j }
+    {
+        self.bounds[18 * i as usize + j as usize]
+    }
+
+    /// Whether the thing is marked as not 0.
+    pub fn marked(&self, i: u8) -> bool
+        requires { i ≤ vars_of self.now }
+        ensures { result ≡ mark_of self.now i }
+    {
+        self.marks[i as usize]
+    }
+
+    /// The same state but for the bound on `i - j`, which is at least -2^64 and at most top's. It isn't normed.
+    pub fn with_bound(self, i: u8, j: u8, bound: i128) -> Zone
+        requires not_bottom { NotBottom self }
+        requires i { i ≤ vars_of self }
+        requires j { j ≤ vars_of self }
+        requires low { negsuc (2 ^ 64 - 1) ≤ℤ bound }
+        requires high { bound ≤ℤ top_bound i j }
+        ensures { ChangesBound self result i j bound }
+    {
+        let mut bounds = self.bounds;
+        bounds[18 * i as usize + j as usize] = bound;
+        let marks = self.marks;
+        Zone {
+            vars: self.vars,
+            bottom: self.bottom,
+            bounds,
+            marks,
+        }
+    }
+
+    /// The same state with a mark on the variable `i`. It isn't normed.
+    pub fn with_mark(self, i: u8) -> Zone
+        requires not_bottom { NotBottom self }
+        requires variable { 1 ≤ i }
+        requires i { i ≤ vars_of self }
+        ensures { AddsMark self result i }
+    {
+        let bounds = self.bounds;
+        let mut marks = self.marks;
+        marks[i as usize] = true;
+        Zone {
+            vars: self.vars,
+            bottom: self.bottom,
+            bounds,
+            marks,
+        }
+    }
+}
