@@ -1,0 +1,3 @@
+pub mod FormedReads
+pub mod ListChanges
+pub mod FormedAfter

@@ -1,0 +1,6 @@
+-- The first bytes are copied, and zeros are behind them.
+use Rattle.std.proofs.Common.{◌≡◌, ◌-◌, ◌++◌, take, replicate}
+use Rattle.vmv_keeper.proofs.label.padded.Given as goal
+
+abbrev pub invariant-loop-i : goal.invariant-loop-i
+invariant-loop-i l = l.all ≡ take l.i l.bytes ++ replicate (64 - l.i) 0

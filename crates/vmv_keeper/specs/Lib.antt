@@ -1,0 +1,9 @@
+pub mod Label
+pub mod Padded
+pub mod Tables
+pub mod Outside
+pub mod Formed
+pub mod Changes
+pub mod Forms
+pub mod Judging
+pub mod JudgeTable
