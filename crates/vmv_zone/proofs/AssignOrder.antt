@@ -147,13 +147,14 @@ given_mono (Copy x) m m' n t tight normal same hx h = record { same = h.same; ma
 given_mono (Arith op x y) m m' n t tight normal same hxy h = computed_mono op m m' n t x y tight normal same hxy.0 hxy.1 h
 given_mono (Within c) m m' n t tight normal same hx h = h
 
-moved_inside : (to last i : ℕ) → i < last → moved to last i ≤ last
+pub moved_inside : (to last i : ℕ) → i < last → moved to last i ≤ last
 moved_inside to last i h = grind arith
 
-moved_variable : (to last i : ℕ) → 1 ≤ i → i < last → 1 ≤ moved to last i
+pub moved_variable : (to last i : ℕ) → 1 ≤ i → i < last → 1 ≤ moved to last i
 moved_variable to last i from h = grind arith
 
-drop_mono : (to : ℕ) (a a' b b' : Zone) → a.vars ≡ b.vars → Drops to a a' → Drops to b b' → IsBelow a b → IsBelow a' b'
+-- lower states are lower without one variable
+pub drop_mono : (to : ℕ) (a a' b b' : Zone) → a.vars ≡ b.vars → Drops to a a' → Drops to b b' → IsBelow a b → IsBelow a' b'
 drop_mono to a a' b b' same one two below up =
     let here = below (false_along a'.bottom a.bottom one.bottom up) in
     record {

@@ -1,13 +1,14 @@
 -- Properties added to a state, and the greatest normal state that has them.
-use Rattle.std.proofs.Common.{◌∙◌, ◌≡◌, ◌≢◌, ◌⊎◌, ◌↔◌, ℕ, ◌+◌, ◌-◌, ◌^◌, ◌≤◌, ◌<◌, ℤ, negsuc, ◌≤ℤ◌, List, Bool, IsTrue, IsFalse, arith, rules, inl, inr, ⊎_elim, sym, subst, refl}
-use Rattle.std.specs.Int.{int_min, int_max}
+use Rattle.std.proofs.Common.{◌∙◌, ◌≡◌, ◌≢◌, ◌⊎◌, ◌↔◌, ℕ, ◌+◌, ◌-◌, ◌^◌, ◌≤◌, ℤ, pos, negsuc, ◌+ℤ◌, ◌≤ℤ◌, ◌<ℤ◌, List, Bool, IsTrue, IsFalse, arith, rules, inl, inr, ⊎_elim, sym, subst, refl}
+use Rattle.std.specs.Int.{int_max}
 use Rattle.std.proofs.lemmas.Int.{ints, clamps}
 use Rattle.std.proofs.lemmas.Bool.{cases_eq}
 use Rattle.vmv_zone.specs.declared.zone.Zone.{Zone}
-use Rattle.vmv_zone.specs.Bounds.{bound_at, IsMarkedIn, top_bound, extended_bound, IsTable}
-use Rattle.vmv_zone.specs.Zone.{bound_of, mark_of, IsNormOf, IsGreatest, ChangesBound}
-use Rattle.vmv_zone.specs.Confine.{IsProper, Confines}
+use Rattle.vmv_zone.specs.Bounds.{bound_at, IsClosed, IsMarkedIn, top_bound, extended_bound, through_bound, IsTableBy}
+use Rattle.vmv_zone.specs.Zone.{bound_of, IsTighter, IsNormOf, IsGreatest}
+use Rattle.vmv_zone.specs.Confine.{IsProper, HasClosedBounds, Confines}
 use Rattle.vmv_zone.proofs.Places.{top_bound_high}
+use Rattle.vmv_zone.proofs.Closing.{by_last, extended_both, extended_from, extended_to, extended_old, extended_closed, through_closed}
 
 pub true_along : (a b : Bool) → a ≡ b → IsTrue a → IsTrue b
 true_along a b e h = let P : Bool → Type 0 = λ v. IsTrue v in subst P e h
@@ -29,6 +30,7 @@ confines_both one two = record {
   within = λ n same proper tight. one.within n same proper (two.within n same proper tight);
   has = λ n same proper tight. (one.has n same proper (two.within n same proper tight), two.has n same proper tight);
   all = λ n same proper tight h. two.all n same proper (one.all n same proper tight h.0) h.1;
+  closed = λ h. two.closed (one.closed h);
 }
 
 pub confines_next : {count : ℕ} {P Q : Zone → Type 0} {a b d : Zone} → Confines count P a b → Confines b.vars Q b d → Confines count (λ n. P n × Q n) a d
@@ -41,11 +43,12 @@ confines_as iff one = record {
   within = one.within;
   has = λ n same proper tight. (iff n same proper).0 (one.has n same proper tight);
   all = λ n same proper tight h. one.all n same proper tight ((iff n same proper).1 h);
+  closed = one.closed;
 }
 
 -- a property that every state has
 pub confines_none : (P : Zone → Type 0) (z : Zone) → ((n : Zone) → P n) → Confines z.vars P z z
-confines_none P z always = record { vars = refl; within = λ n same proper tight. tight; has = λ n same proper tight. always n; all = λ n same proper tight h. tight }
+confines_none P z always = record { vars = refl; within = λ n same proper tight. tight; has = λ n same proper tight. always n; all = λ n same proper tight h. tight; closed = λ h. h }
 
 -- Bottom has every property
 pub confines_bottom : (count : ℕ) (P : Zone → Type 0) (old new : Zone) → new.vars ≡ count → IsTrue old.bottom → IsTrue new.bottom → Confines count P old new
@@ -54,6 +57,7 @@ confines_bottom count P old new vars none none' = record {
   within = λ n same proper tight. absurd (let f = tight.not_bottom in search rules);
   has = λ n same proper tight. absurd (let f = tight.not_bottom in search rules);
   all = λ n same proper tight h. absurd (let f = tight.not_bottom in search rules);
+  closed = λ h up. absurd (search rules);
 }
 
 -- Bottom for a property that no state has
@@ -63,6 +67,7 @@ confines_never P old new vars none never = record {
   within = λ n same proper tight. absurd (let f = tight.not_bottom in search rules);
   has = λ n same proper tight. absurd (let f = tight.not_bottom in search rules);
   all = λ n same proper tight h. absurd (never n same proper h);
+  closed = λ h up. absurd (search rules);
 }
 
 -- the norm of a state with a property added is the greatest that has it
@@ -78,59 +83,104 @@ greatest_of count Has old new g confines norm =
           (λ up. confines.all n same (record { not_bottom = up; normal = normal up }) (below up) (has up));
     }
 
-extended_old : (bs : List ℤ) (last i j : ℕ) → i < last → j < last → extended_bound bs last i j ≡ bound_at bs i j
-extended_old bs last i j hi hj = grind arith
+-- no bound of a proper normal state is as low as -2^64, so one that isn't above a bound kept in reach isn't above the bound
+proper_low : (n : Zone) (i j : ℕ) (b b' : ℤ) → i ≤ n.vars → j ≤ n.vars → IsProper n → b' ≡ int_max b (negsuc (2 ^ 64 - 1)) → bound_of n i j ≤ℤ b' → bound_of n i j ≤ℤ b
+proper_low n i j b b' hi hj proper is low =
+    let closed = proper.normal.tight.closed in
+    let self = closed.self i hi in
+    let path = closed.paths i j i hi hj hi in
+    let top = n.topped j i hj hi in
+    let high = top_bound_high j i in
+    omega (arith, ints, clamps)
 
-extended_last : (bs : List ℤ) (last i j : ℕ) → (i ≡ last) ⊎ (j ≡ last) → extended_bound bs last i j ≡ top_bound i j
-extended_last bs last i j h = grind arith
+-- a bound that is low enough already
+pub lowered_none : (z : Zone) (i j : ℕ) (b b' : ℤ) → i ≤ z.vars → j ≤ z.vars → b' ≡ int_max b (negsuc (2 ^ 64 - 1)) → bound_of z i j ≤ℤ b' → Confines z.vars (λ n. bound_of n i j ≤ℤ b) z z
+lowered_none z i j b b' hi hj is low = record {
+  vars = refl;
+  within = λ n same proper tight. tight;
+  has = λ n same proper tight. let t = tight.bounds i j hi hj in proper_low n i j b b' (omega (arith, same)) (omega (arith, same)) proper is (omega (arith, ints));
+  all = λ n same proper tight h. tight;
+  closed = λ h. h;
+}
 
-inside_or_last : (last i j : ℕ) → i ≤ last → j ≤ last → ((i < last) × (j < last)) ⊎ ((i ≡ last) ⊎ (j ≡ last))
-inside_or_last last i j hi hj =
-    ⊎_elim
-    (λ (at : i ≡ last). inr (inl at))
-    (λ (off : i ≢ last). ⊎_elim (λ (at : j ≡ last). inr (inr at)) (λ (off' : j ≢ last). inl (omega arith, omega arith)) (cases_eq j last))
-    (cases_eq i last)
+-- a bound that makes a cycle below 0
+pub lowered_empty : (z none : Zone) (i j : ℕ) (b b' : ℤ) → none.vars ≡ z.vars → IsTrue none.bottom → i ≤ z.vars → j ≤ z.vars → b' ≡ int_max b (negsuc (2 ^ 64 - 1)) →
+    (b' +ℤ bound_of z j i) <ℤ pos 0 → Confines z.vars (λ n. bound_of n i j ≤ℤ b) z none
+lowered_empty z none i j b b' vars bottom hi hj is cycle = record {
+  vars = vars;
+  within = λ n same proper tight. absurd (let f = tight.not_bottom in search rules);
+  has = λ n same proper tight. absurd (let f = tight.not_bottom in search rules);
+  all = λ n same proper tight h. absurd (
+      let back = tight.bounds j i hj hi in
+      let closed = proper.normal.tight.closed in
+      let self = closed.self i (omega (arith, same)) in
+      let path = closed.paths i j i (omega (arith, same)) (omega (arith, same)) (omega (arith, same)) in
+      omega (arith, ints, clamps));
+  closed = λ h up. absurd (search rules);
+}
 
--- one bound lowered, and kept from falling out of reach
-pub lowered_confines : (old new : Zone) (i j : ℕ) (b b' : ℤ) → i ≤ old.vars → j ≤ old.vars → IsFalse old.bottom → ChangesBound old new i j b' →
-    b' ≡ int_min (bound_of old i j) (int_max b (negsuc (2 ^ 64 - 1))) → Confines old.vars (λ n. bound_of n i j ≤ℤ b) old new
-lowered_confines old new i j b b' hi hj up change is = record {
-  vars = change.vars;
+-- one bound lowered, and the bounds closed again
+pub lowered_through : (old new : Zone) (i j : ℕ) (b b' : ℤ) → i ≤ old.vars → j ≤ old.vars → new.vars ≡ old.vars → IsFalse old.bottom → IsFalse new.bottom → new.marks ≡ old.marks →
+    HasClosedBounds old → b' ≡ int_max b (negsuc (2 ^ 64 - 1)) → pos 0 ≤ℤ (b' +ℤ bound_of old j i) →
+    IsTableBy (λ p q x. x ≡ through_bound old.bounds i j b' p q) old.vars new.bounds → Confines old.vars (λ n. bound_of n i j ≤ℤ b) old new
+lowered_through old new i j b b' hi hj vars up up' marks closed is cycle table = record {
+  vars = vars;
   within = λ n same proper tight. record {
     not_bottom = up;
     bounds = λ p q hp hq.
-        let t = tight.bounds p q (omega (arith, change.vars)) (omega (arith, change.vars)) in
-        let t' = tight.bounds i j (omega (arith, change.vars)) (omega (arith, change.vars)) in
-        at_or_off (λ p q. bound_at n.bounds p q ≤ℤ bound_at new.bounds p q → bound_at n.bounds p q ≤ℤ bound_at old.bounds p q) i j p q
-        (λ below. let e = change.changed in omega (arith, ints, clamps))
-        (λ off below. let e = change.others p q hp hq off in omega (arith, ints))
-        t;
-    marks = λ p from hp marked. tight.marks p from (omega (arith, change.vars)) (true_along (mark_of old p) (mark_of new p) (sym (change.marks p)) marked);
+        let t = tight.bounds p q (omega (arith, vars)) (omega (arith, vars)) in
+        let e = table.at p q hp hq in
+        omega (arith, ints, clamps);
+    marks = λ p from hp marked. tight.marks p from (omega (arith, vars)) (let P : List Bool → Type 0 = λ l. IsMarkedIn l p in subst P (sym marks) marked);
   };
   has = λ n same proper tight.
-      let closed = proper.normal.tight.closed in
-      let t = tight.bounds i j (omega (arith, change.vars)) (omega (arith, change.vars)) in
-      let e = change.changed in
-      let self = closed.self i (omega arith) in
-      let path = closed.paths i j i (omega arith) (omega arith) (omega arith) in
-      let top = n.topped j i (omega arith) (omega arith) in
-      let high = top_bound_high j i in
-      omega (arith, ints, clamps);
+      let t = tight.bounds i j (omega (arith, vars)) (omega (arith, vars)) in
+      let e = table.at i j hi hj in
+      let self = (closed up).self i hi in
+      let self' = (closed up).self j hj in
+      proper_low n i j b b' (omega (arith, same)) (omega (arith, same)) proper is (omega (arith, ints, clamps));
   all = λ n same proper tight h. record {
-    not_bottom = false_along old.bottom new.bottom (sym change.bottom) up;
+    not_bottom = up';
     bounds = λ p q hp hq.
-        let t = tight.bounds p q (omega (arith, change.vars)) (omega (arith, change.vars)) in
-        at_or_off (λ p q. bound_at n.bounds p q ≤ℤ bound_at old.bounds p q → bound_at n.bounds p q ≤ℤ bound_at new.bounds p q) i j p q
-        (λ below. let e = change.changed in omega (arith, ints, clamps))
-        (λ off below. let e = change.others p q (omega (arith, change.vars)) (omega (arith, change.vars)) off in omega (arith, ints))
-        t;
-    marks = λ p from hp marked. tight.marks p from (omega (arith, change.vars)) (true_along (mark_of new p) (mark_of old p) (change.marks p) marked);
+        let pq = tight.bounds p q (omega (arith, vars)) (omega (arith, vars)) in
+        let pi = tight.bounds p i (omega (arith, vars)) hi in
+        let jq = tight.bounds j q hj (omega (arith, vars)) in
+        let paths = proper.normal.tight.closed.paths in
+        let one = paths p i q (omega (arith, vars, same)) (omega (arith, same)) (omega (arith, vars, same)) in
+        let two = paths i j q (omega (arith, same)) (omega (arith, same)) (omega (arith, vars, same)) in
+        let e = table.at p q (omega (arith, vars)) (omega (arith, vars)) in
+        omega (arith, ints, clamps);
+    marks = λ p from hp marked. tight.marks p from (omega (arith, vars)) (let P : List Bool → Type 0 = λ l. IsMarkedIn l p in subst P marks marked);
   };
+  closed = λ h up''. let P : ℕ → Type 0 = λ v. IsClosed (bound_at new.bounds) v in subst P (sym vars) (through_closed old.bounds new.bounds old.vars i j b' hi hj (closed up) cycle table);
 }
+
+top_same : (i j : ℕ) → i ≡ j → top_bound i j ≡ pos 0
+top_same i j h = grind arith
+
+top_to_zero : (i : ℕ) → 1 ≤ i → top_bound i 0 ≡ pos (2 ^ 63 - 1)
+top_to_zero i h = grind arith
+
+top_from_zero : (j : ℕ) → 1 ≤ j → top_bound 0 j ≡ pos (2 ^ 63)
+top_from_zero j h = grind arith
+
+-- a proper normal state over one variable more has no bound above those that words and the old bounds keep
+extended_above : (old n : Zone) (p q : ℕ) → n.vars ≡ old.vars + 1 → IsProper n → IsTighter n old → p ≤ old.vars + 1 → q ≤ old.vars + 1 → bound_of n p q ≤ℤ extended_bound old.bounds (old.vars + 1) p q
+extended_above old n p q same proper tight hp hq =
+    let closed = proper.normal.tight.closed in
+    by_last (old.vars + 1) p hp
+    (λ ep. by_last (old.vars + 1) q hq
+    (λ eq. let e = extended_both old.bounds (old.vars + 1) p q ep eq in let s = n.topped p q (omega (arith, same)) (omega (arith, same)) in let t = top_same p q (omega arith) in omega (arith, ints))
+    (λ lq. let e = extended_from old.bounds (old.vars + 1) p q ep lq in let s = n.topped p 0 (omega (arith, same)) (omega arith) in let t = top_to_zero p (omega arith) in
+    let path = closed.paths p 0 q (omega (arith, same)) (omega arith) (omega (arith, same)) in let b = tight.bounds 0 q (omega arith) (omega arith) in omega (arith, ints)))
+    (λ lp. by_last (old.vars + 1) q hq
+    (λ eq. let e = extended_to old.bounds (old.vars + 1) p q lp eq in let s = n.topped 0 q (omega arith) (omega (arith, same)) in let t = top_from_zero q (omega arith) in
+    let path = closed.paths p 0 q (omega (arith, same)) (omega arith) (omega (arith, same)) in let b = tight.bounds p 0 (omega arith) (omega arith) in omega (arith, ints))
+    (λ lq. let e = extended_old old.bounds (old.vars + 1) p q lp lq in let b = tight.bounds p q (omega arith) (omega arith) in omega (arith, ints)))
 
 -- one variable more, with the bounds that words keep
 pub extended_confines : (old new : Zone) → new.vars ≡ old.vars + 1 → IsFalse old.bottom → IsFalse new.bottom → new.marks ≡ old.marks →
-    IsTable (extended_bound old.bounds (old.vars + 1)) (old.vars + 1) new.bounds → Confines (old.vars + 1) (λ n. Unit {0}) old new
+    IsTableBy (λ i j b. b ≡ extended_bound old.bounds (old.vars + 1) i j) (old.vars + 1) new.bounds → Confines (old.vars + 1) (λ n. Unit {0}) old new
 extended_confines old new vars up up' marks table = record {
   vars = vars;
   within = λ n same proper tight. record {
@@ -147,25 +197,11 @@ extended_confines old new vars up up' marks table = record {
     not_bottom = up';
     bounds = λ p q hp hq.
         let e = table.at p q (omega (arith, vars)) (omega (arith, vars)) in
-        let top = n.topped p q (omega (arith, vars)) (omega (arith, vars)) in
-        ⊎_elim
-        (λ (inside : (p < old.vars + 1) × (q < old.vars + 1)).
-        let t = tight.bounds p q (omega (arith, inside.0)) (omega (arith, inside.1)) in
-        let e' = extended_old old.bounds (old.vars + 1) p q inside.0 inside.1 in omega (arith, ints))
-        (λ (last : (p ≡ old.vars + 1) ⊎ (q ≡ old.vars + 1)).
-        let e' = extended_last old.bounds (old.vars + 1) p q last in omega (arith, ints))
-        (inside_or_last (old.vars + 1) p q (omega (arith, vars)) (omega (arith, vars)));
+        let below = extended_above old n p q same proper tight (omega (arith, vars)) (omega (arith, vars)) in
+        omega (arith, ints);
     marks = λ p from hp marked.
         let marked' : IsMarkedIn old.marks p = (let P : List Bool → Type 0 = λ l. IsMarkedIn l p in subst P marks marked) in
         tight.marks p from (old.variables p marked').1 marked';
   };
+  closed = λ h up''. let P : ℕ → Type 0 = λ v. IsClosed (bound_at new.bounds) v in subst P (sym vars) (extended_closed old.bounds new.bounds (old.vars + 1) (omega arith) (let Q : ℕ → Type 0 = λ v. IsClosed (bound_at old.bounds) v in subst Q (omega arith) (h up)) table);
 }
-
-pub extended_under_top : (z : Zone) (i j : ℕ) → i ≤ z.vars + 1 → j ≤ z.vars + 1 → extended_bound z.bounds (z.vars + 1) i j ≤ℤ top_bound i j
-extended_under_top z i j hi hj =
-    ⊎_elim
-    (λ (inside : (i < z.vars + 1) × (j < z.vars + 1)).
-    let t = z.topped i j (omega (arith, inside.0)) (omega (arith, inside.1)) in
-    let e = extended_old z.bounds (z.vars + 1) i j inside.0 inside.1 in omega (arith, ints))
-    (λ (last : (i ≡ z.vars + 1) ⊎ (j ≡ z.vars + 1)). let e = extended_last z.bounds (z.vars + 1) i j last in omega (arith, ints))
-    (inside_or_last (z.vars + 1) i j hi hj)

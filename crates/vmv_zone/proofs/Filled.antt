@@ -3,7 +3,7 @@ use Rattle.std.proofs.Common.{◌≡◌, ◌≢◌, ⊎_elim, ℕ, ◌+◌, ◌*
 use Rattle.std.proofs.lemmas.List.{length-replicate}
 use Rattle.std.proofs.lemmas.Bool.{cases_eq, cases_lt}
 use Rattle.std.proofs.lemmas.Int.{ints}
-use Rattle.vmv_zone.specs.Bounds.{IsInReach, AreInReach, bound_at, inner_bound, IsTable, top_bound, extended_bound, dropped_bound, moved, IsTableBy}
+use Rattle.vmv_zone.specs.Bounds.{IsInReach, AreInReach, bound_at, inner_bound, IsTable, top_bound, dropped_bound, moved, IsTableBy}
 use Rattle.vmv_zone.proofs.Places.{reach_set}
 use Rattle.vmv_zone.proofs.Zeros.{zeros_reach, get_or-zeros}
 
@@ -65,12 +65,6 @@ tabulated_done f vars bs place few all table = record {
 
 pub top_in_reach : (i j : ℕ) → IsInReach (top_bound i j)
 top_in_reach i j = record { low = grind (arith, ints); high = grind (arith, ints) }
-
-pub extended_in_reach : (bs : List ℤ) (last : ℕ) → AreInReach bs → (i j : ℕ) → IsInReach (extended_bound bs last i j)
-extended_in_reach bs last reach i j =
-    let top = top_in_reach i j in
-    let old = reach (18 * i + j) in
-    record { low = grind (arith, ints); high = grind (arith, ints) }
 
 pub dropped_in_reach : (bs : List ℤ) (to last : ℕ) → AreInReach bs → (i j : ℕ) → IsInReach (dropped_bound bs to last i j)
 dropped_in_reach bs to last reach i j = reach (18 * moved to last i + moved to last j)

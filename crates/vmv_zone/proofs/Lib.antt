@@ -6,6 +6,7 @@ pub mod Places
 pub mod Turns
 pub mod Zeros
 pub mod States
+pub mod Closing
 pub mod Confining
 pub mod Operands
 pub mod Guards
@@ -22,3 +23,5 @@ pub mod AssignPoints
 pub mod AssignOrder
 pub mod MoreLaws
 pub mod Ascending
+pub mod Equal
+pub mod WordOrder

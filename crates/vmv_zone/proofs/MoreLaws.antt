@@ -1,5 +1,5 @@
 -- Joins, roundings, arguments and ranges keep points and the order of states; results are normal.
-use Rattle.std.proofs.Common.{◌∙◌, ◌≡◌, ℕ, ◌≤◌, ◌<◌, ℤ, pos, ◌<ℤ◌, List, length, FitsSigned, arith, inl, inr, ⊎_elim, sym, subst, refl}
+use Rattle.std.proofs.Common.{◌∙◌, ◌≡◌, ℕ, ◌≤◌, ℤ, pos, ◌<ℤ◌, List, length, FitsSigned, arith, inl, inr, ⊎_elim, sym, subst, refl}
 use Rattle.std.specs.Int.{w64}
 use Rattle.std.proofs.lemmas.Int.{ints}
 use Rattle.vmv_cond.specs.declared.cond.Cond.{Cond}
@@ -16,6 +16,7 @@ use Rattle.vmv_zone.specs.Round.{IsRounded}
 use Rattle.vmv_zone.specs.Args.{argument_at, AreOperands, IsArgsOf}
 use Rattle.vmv_zone.specs.Step.{IsAssigned, Drops}
 use Rattle.vmv_zone.proofs.Confining.{true_along, false_along}
+use Rattle.vmv_zone.proofs.AssignOrder.{moved_inside, moved_variable}
 use Rattle.vmv_zone.proofs.States.{below_trans, norm_mono}
 use Rattle.vmv_zone.proofs.GuardLaws.{point_dif, point_nonzero, norm_point, dif_mono, nonzero_mono}
 
@@ -97,12 +98,6 @@ range_mono a b x c d same hx one two below w held =
 -- a normal state is its own norm, as far as the order tells
 pub norm_same : (z n : Zone) → IsNormal z → IsNormOf z n → IsBelow z n
 norm_same z n normal norm = norm.greatest z refl normal (λ up. record { not_bottom = up; bounds = λ i j hi hj. omega (arith, ints); marks = λ i from hi marked. marked })
-
-moved_inside : (to last i : ℕ) → i < last → moved to last i ≤ last
-moved_inside to last i h = grind arith
-
-moved_variable : (to last i : ℕ) → 1 ≤ i → i < last → 1 ≤ moved to last i
-moved_variable to last i from h = grind arith
 
 moved_zero : (to last : ℕ) → 1 ≤ to → moved to last 0 ≡ 0
 moved_zero to last h = grind arith

@@ -1,5 +1,6 @@
 -- Bounds on the differences of things, one place for each pair.
-use Rattle.std.specs.Prelude.{◌≡◌, ◌≢◌, ◌⊎◌, ◌==◌, ◌||◌, if◌then◌else◌, Bool, false, IsTrue, ℕ, ◌+◌, ◌*◌, ◌-◌, ◌^◌, ◌<◌, ◌≤◌, ℤ, pos, negsuc, ◌+ℤ◌, ◌≤ℤ◌, ◌<ℤ◌, List, [], ◌∷◌, get_or, length, nat_le}
+use Rattle.std.specs.Prelude.{◌≡◌, ◌≢◌, ◌⊎◌, ◌==◌, ◌&&◌, if◌then◌else◌, Bool, false, IsTrue, ℕ, ◌+◌, ◌*◌, ◌-◌, ◌^◌, ◌<◌, ◌≤◌, ℤ, pos, negsuc, ◌+ℤ◌, ◌≤ℤ◌, ◌<ℤ◌, List, [], ◌∷◌, get_or, length, nat_le}
+use Rattle.std.specs.Int.{int_min}
 
 -- the bound on i - j
 abbrev pub bound_at : List ℤ → ℕ → ℕ → ℤ
@@ -88,9 +89,15 @@ weight (b ∷ bs) = height b + weight bs
 abbrev pub moved : ℕ → ℕ → ℕ → ℕ
 moved to last i = if i == to then last else i
 
--- the bound on i - j, as words keep it where one of them is the last variable
+-- the bound on i - j, as words and the bounds against 0 keep it where one of them is the last variable
 abbrev pub extended_bound : List ℤ → ℕ → ℕ → ℕ → ℤ
-extended_bound bs last i j = if i == last || j == last then top_bound i j else bound_at bs i j
+extended_bound bs last i j =
+    if i == last && j == last then pos 0 else if i == last then pos (2 ^ 63 - 1) +ℤ bound_at bs 0 j
+    else if j == last then bound_at bs i 0 +ℤ pos (2 ^ 63) else bound_at bs i j
+
+-- the bound on p - q, or that of the path from p to i, over the bound b on i - j, and on to q
+abbrev pub through_bound : List ℤ → ℕ → ℕ → ℤ → ℕ → ℕ → ℤ
+through_bound bs i j b p q = int_min (bound_at bs p q) ((bound_at bs p i +ℤ b) +ℤ bound_at bs j q)
 
 -- the bound on i - j with the last variable in place of the variable `to`
 abbrev pub dropped_bound : List ℤ → ℕ → ℕ → ℕ → ℕ → ℤ

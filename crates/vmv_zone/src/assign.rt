@@ -3,7 +3,7 @@ ghost use Rattle.vmv_cond.specs.declared.cond.Cond.{Cond};
 ghost use Rattle.vmv_zone.specs.declared.zone.Zone.{Zone};
 ghost use Rattle.vmv_zone.specs.Zone.{vars_of, IsNormal};
 ghost use Rattle.vmv_zone.specs.Operand.{IsOperand, IsNonzero, low, up, dif};
-ghost use Rattle.vmv_zone.specs.Confine.{Confines};
+ghost use Rattle.vmv_zone.specs.Confine.{Confines, HasClosedBounds};
 ghost use Rattle.vmv_zone.specs.Step.{Given, Computed, IsCopy, IsSum, IsDifference, IsWordOf, IsAssigned, Drops, IsOperandOf};
 
 use crate::operand::{ZERO, ZoneOp, ZoneOperand, ZoneValue};
@@ -24,7 +24,7 @@ impl Zone {
         before
             .extended()
             .given(&before, fresh, value)
-            .norm()
+            .norm_of_closed()
             .dropped(to)
     }
 
@@ -34,6 +34,7 @@ impl Zone {
         requires vars { vars_of self ≡ vars_of before.now + 1 }
         requires normal { IsNormal before.now }
         requires value { IsOperandOf value (vars_of before.now) }
+        requires closed { HasClosedBounds self }
         ensures { Confines (vars_of self) (λ n. Given value before.now n fresh) self result }
     {
         match value {
@@ -48,6 +49,7 @@ impl Zone {
         requires fresh { IsOperand (vars_of self) fresh }
         requires vars { vars_of self ≡ vars_of before.now + 1 }
         requires operand { IsOperand (vars_of before.now) operand }
+        requires closed { HasClosedBounds self }
         ensures { Confines (vars_of self) (λ n. IsCopy before.now n fresh operand) self result }
     {
         let marked = before.nonzero(operand);
@@ -58,6 +60,7 @@ impl Zone {
     /// This state with the fresh variable a word of the condition.
     fn within(self, fresh: ZoneOperand, cond: Cond) -> Zone
         requires fresh { IsOperand (vars_of self) fresh }
+        requires closed { HasClosedBounds self }
         ensures { Confines (vars_of self) (λ n. IsWordOf cond n fresh) self result }
     {
         self.spanned(fresh, ZERO, cond.lo() as i128, cond.hi() as i128)

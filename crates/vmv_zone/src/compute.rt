@@ -1,7 +1,7 @@
 ghost use Rattle.std.specs.Prelude.{◌≡◌, ◌+◌, ◌≤◌, neg_ℤ};
 ghost use Rattle.vmv_zone.specs.Zone.{vars_of, bound_of, IsNormal};
 ghost use Rattle.vmv_zone.specs.Operand.{IsOperand, low, up};
-ghost use Rattle.vmv_zone.specs.Confine.{Confines};
+ghost use Rattle.vmv_zone.specs.Confine.{Confines, HasClosedBounds};
 ghost use Rattle.vmv_zone.specs.Step.{Computed, IsSum, IsDifference, IsProduct, IsQuotient, IsRemainder};
 
 use crate::ends::{Ends, greatest_remainder, least_remainder, products, quotients};
@@ -23,6 +23,7 @@ impl Zone {
         requires normal { IsNormal before.now }
         requires left { IsOperand (vars_of before.now) left }
         requires right { IsOperand (vars_of before.now) right }
+        requires closed { HasClosedBounds self }
         ensures { Confines (vars_of self) (λ n. Computed op before.now n fresh left right) self result }
     {
         match op {
@@ -74,6 +75,7 @@ impl Zone {
         requires normal { IsNormal before.now }
         requires left { IsOperand (vars_of before.now) left }
         requires right { IsOperand (vars_of before.now) right }
+        requires closed { HasClosedBounds self }
         ensures { Confines (vars_of self) (λ n. IsSum before.now n fresh left right) self result }
     {
         let x = before.ends(left);
@@ -98,6 +100,7 @@ impl Zone {
         requires normal { IsNormal before.now }
         requires left { IsOperand (vars_of before.now) left }
         requires right { IsOperand (vars_of before.now) right }
+        requires closed { HasClosedBounds self }
         ensures { Confines (vars_of self) (λ n. IsDifference before.now n fresh left right) self result }
     {
         let y = before.ends(right);
@@ -119,6 +122,7 @@ impl Zone {
         requires normal { IsNormal before.now }
         requires left { IsOperand (vars_of before.now) left }
         requires right { IsOperand (vars_of before.now) right }
+        requires closed { HasClosedBounds self }
         ensures { Confines (vars_of self) (λ n. IsProduct before.now n fresh left right) self result }
     {
         let x = before.ends(left);
@@ -143,6 +147,7 @@ impl Zone {
         requires normal { IsNormal before.now }
         requires left { IsOperand (vars_of before.now) left }
         requires right { IsOperand (vars_of before.now) right }
+        requires closed { HasClosedBounds self }
         ensures { Confines (vars_of self) (λ n. IsQuotient before.now n fresh left right) self result }
     {
         let x = before.ends(left);
@@ -168,6 +173,7 @@ impl Zone {
         requires normal { IsNormal before.now }
         requires left { IsOperand (vars_of before.now) left }
         requires right { IsOperand (vars_of before.now) right }
+        requires closed { HasClosedBounds self }
         ensures { Confines (vars_of self) (λ n. IsRemainder before.now n fresh left right) self result }
     {
         let x = before.ends(left);

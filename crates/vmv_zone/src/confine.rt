@@ -2,10 +2,10 @@ ghost use Rattle.std.specs.Prelude.{◌≡◌, ◌+◌, ◌-◌, ◌^◌, ◌≤
 ghost use Rattle.vmv_zone.specs.Zone.{vars_of, bound_of, IsMarked};
 ghost use Rattle.vmv_zone.specs.Operand.{dif, IsOperand, IsNonzero, IsSpan};
 ghost use Rattle.vmv_zone.specs.Bounds.{IsWide};
-ghost use Rattle.vmv_zone.specs.Confine.{Confines};
+ghost use Rattle.vmv_zone.specs.Confine.{Confines, HasClosedBounds};
 
 use crate::operand::ZoneOperand;
-use crate::tables::extended_bounds;
+use crate::tables::{closed_bounds, extended_bounds};
 use crate::zone::Zone;
 
 impl Zone {
@@ -32,7 +32,7 @@ impl Zone {
 
     /// This state with one variable more, which may be any word.
     pub(crate) fn extended(self) -> Zone
-        requires { vars_of self ≤ 16 }
+        requires few { vars_of self ≤ 16 }
         ensures { Confines (vars_of self + 1) (λ n. Unit {0}) self result }
     {
         if self.bottom {
@@ -52,13 +52,28 @@ impl Zone {
     pub(crate) fn lowered(self, i: u8, j: u8, bound: i128) -> Zone
         requires i { i ≤ vars_of self }
         requires j { j ≤ vars_of self }
+        requires closed { HasClosedBounds self }
         ensures { Confines (vars_of self) (λ n. bound_of n i j ≤ℤ bound) self result }
     {
         if self.bottom {
             return self;
         }
-        let old = self.bound(i, j);
-        self.with_bound(i, j, old.min(bound.max(-1 << 64)))
+        let kept = bound.max(-1 << 64);
+        if kept >= self.bound(i, j) {
+            return self;
+        }
+        if kept + self.bound(j, i) < 0 {
+            return Zone::none(self.vars);
+        }
+        let vars = self.vars as usize;
+        let bounds = closed_bounds(&self.bounds, vars, i as usize, j as usize, kept);
+        let marks = self.marks;
+        Zone {
+            vars: self.vars,
+            bottom: false,
+            bounds,
+            marks,
+        }
     }
 
     /// This state with the difference of the operands at most `most`.
@@ -66,6 +81,7 @@ impl Zone {
         requires left { IsOperand (vars_of self) left }
         requires right { IsOperand (vars_of self) right }
         requires most { IsWide most }
+        requires closed { HasClosedBounds self }
         ensures { Confines (vars_of self) (λ n. dif n left right ≤ℤ most) self result }
     {
         let bound = most - left.shift() as i128 + right.shift() as i128;
@@ -78,6 +94,7 @@ impl Zone {
         requires right { IsOperand (vars_of self) right }
         requires lo { IsWide lo }
         requires hi { IsWide hi }
+        requires closed { HasClosedBounds self }
         ensures { Confines (vars_of self) (λ n. IsSpan n left right lo hi) self result }
     {
         self.at_most(left, right, hi).at_most(right, left, -lo)

@@ -1,7 +1,7 @@
 ghost use Rattle.std.specs.Prelude.{◌≡◌, ◌↔◌, ◌≤ℤ◌, pos, negsuc, IsTrue};
 ghost use Rattle.vmv_zone.specs.Zone.{vars_of};
 ghost use Rattle.vmv_zone.specs.Operand.{IsOperand, IsZero, IsNonzero, dif};
-ghost use Rattle.vmv_zone.specs.Confine.{Confines};
+ghost use Rattle.vmv_zone.specs.Confine.{Confines, HasClosedBounds};
 ghost use Rattle.vmv_zone.specs.Step.{Tested, IsApart, IsGuarded};
 
 use crate::operand::{ZoneOperand, ZoneTest};
@@ -16,13 +16,14 @@ impl Zone {
         ensures { IsGuarded self test result }
     {
         let before = self.norm();
-        before.tested(test).norm()
+        before.tested(test).norm_of_closed()
     }
 
     /// This state with what the test adds.
     fn tested(self, test: ZoneTest) -> Zone
         requires left { IsOperand (vars_of self) test.left }
         requires right { IsOperand (vars_of self) test.right }
+        requires closed { HasClosedBounds self }
         ensures { Confines (vars_of self) (λ n. Tested test.rel self n test.left test.right) self result }
     {
         match test.rel {
@@ -39,6 +40,7 @@ impl Zone {
     fn apart(self, left: ZoneOperand, right: ZoneOperand) -> Zone
         requires left { IsOperand (vars_of self) left }
         requires right { IsOperand (vars_of self) right }
+        requires closed { HasClosedBounds self }
         ensures { Confines (vars_of self) (λ n. IsApart self n left right) self result }
     {
         let above = self.touches(left, right);
@@ -62,6 +64,7 @@ impl Zone {
     fn less_where(self, left: ZoneOperand, right: ZoneOperand, wanted: bool) -> Zone
         requires left { IsOperand (vars_of self) left }
         requires right { IsOperand (vars_of self) right }
+        requires closed { HasClosedBounds self }
         ensures { Confines (vars_of self) (λ n. IsTrue wanted → dif n left right ≤ℤ negsuc 0) self result }
     {
         if !wanted {

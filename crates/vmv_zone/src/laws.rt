@@ -6,6 +6,7 @@ ghost use Rattle.vmv_zone.specs.declared.zone.Zone.{Zone};
 ghost use Rattle.vmv_zone.specs.declared.operand.ZoneOperand.{ZoneOperand};
 ghost use Rattle.vmv_zone.specs.declared.operand.ZoneTest.{ZoneTest};
 ghost use Rattle.vmv_zone.specs.declared.operand.ZoneValue.{ZoneValue};
+ghost use Rattle.vmv_zone.specs.declared.operand.ZoneValue.TheVariants.{Within};
 ghost use Rattle.vmv_zone.specs.Rel.{Meets};
 ghost use Rattle.vmv_zone.specs.Zone.{vars_of, HasPoint, IsBelow, IsNormal, IsNormOf, IsJoin};
 ghost use Rattle.vmv_zone.specs.Operand.{IsOperand, value_at};
@@ -88,4 +89,24 @@ pub fn range_keeps_points()
 /// Lower states have narrower ranges.
 pub fn range_is_monotone()
     ensures { (a b : Zone) (x : ZoneOperand) (c d : Cond) → vars_of a ≡ vars_of b → IsOperand (vars_of b) x → IsRangeOf a x c → IsRangeOf b x d → IsBelow a b → IsSubset c d }
+{}
+
+/// States over the same variables that are below one another are equal.
+pub fn states_below_each_other_are_equal()
+    ensures { (a b : Zone) → vars_of a ≡ vars_of b → IsBelow a b → IsBelow b a → a ≡ b }
+{}
+
+/// A state has one norm.
+pub fn norm_is_unique()
+    ensures { (z m n : Zone) → IsNormOf z m → IsNormOf z n → m ≡ n }
+{}
+
+/// A word of fewer words, assigned to a variable of a lower state, gives a lower state.
+pub fn assign_is_monotone_in_the_words()
+    ensures { (a b r s : Zone) (to : ℕ) (c d : Cond) → vars_of a ≡ vars_of b → 1 ≤ to → IsSubset c d → IsAssigned a to (Within c) r → IsAssigned b to (Within d) s → IsBelow a b → IsBelow r s }
+{}
+
+/// The state of arguments is normal.
+pub fn copy_args_is_normal()
+    ensures { (z r : Zone) (args : List ZoneOperand) → AreOperands (vars_of z) args → IsArgsOf z args r → IsNormal r }
 {}

@@ -189,3 +189,31 @@ pub(crate) fn settle(bounds: &mut [i128; CELLS], marks: &[bool; 18], vars: usize
         }
     }
 }
+
+/// Whether no bound against 0 of a marked variable is 0.
+fn is_off_zero(bounds: &[i128; CELLS], marks: &[bool; 18], vars: usize) -> bool
+    requires { vars ≤ 17 }
+    ensures { IsTrue result → (i : ℕ) → i ≤ vars → 1 ≤ i → IsMarkedIn marks.now i → IsOffZero bounds.now i }
+{
+    for i in 1..vars + 1 {
+        if marks[i] && (bounds[18 * i] == 0 || bounds[i] == 0) {
+            return false;
+        }
+    }
+    true
+}
+
+/// Lowers closed bounds as far as marks, and paths after them, go; false where no point is left.
+pub(crate) fn settle_closed(bounds: &mut [i128; CELLS], marks: &[bool; 18], vars: usize) -> bool
+    requires vars { vars ≤ 17 }
+    requires reach { AreInReach bounds.old }
+    requires closed { IsClosed (bound_at bounds.old) vars }
+    ensures settles { Settles (λ n. IsTight n marks.now vars) vars bounds.old bounds.new }
+    ensures tight { IsTrue result → IsTight (bound_at bounds.new) marks.now vars }
+    ensures empty { IsFalse result → (n : ℕ → ℕ → ℤ) → IsTight n marks.now vars → ¬ Below n vars bounds.old }
+{
+    if is_off_zero(bounds, marks, vars) {
+        return true;
+    }
+    settle(bounds, marks, vars)
+}

@@ -1,5 +1,5 @@
-ghost use Rattle.std.specs.Prelude.{◌≡◌, ◌<◌, ◌≤◌, ◌+◌, ◌-◌, ℕ};
-ghost use Rattle.vmv_zone.specs.Bounds.{AreInReach, IsTable, top_bound, inner_bound, extended_bound, dropped_bound, moved};
+ghost use Rattle.std.specs.Prelude.{◌≡◌, ◌<◌, ◌≤◌, ◌+◌, ◌-◌, ℕ, pos, ◌+ℤ◌, ◌≤ℤ◌};
+ghost use Rattle.vmv_zone.specs.Bounds.{IsInReach, AreInReach, AreUnderTop, IsClosed, IsTable, IsTableBy, bound_at, top_bound, inner_bound, extended_bound, dropped_bound, through_bound, moved};
 
 use crate::paths::CELLS;
 
@@ -40,11 +40,12 @@ fn top_inside(vars: usize, i: usize, j: usize) -> i128
     top_of(i, j)
 }
 
-/// The bounds with those on one variable more, as words keep them.
+/// The bounds with those on one variable more, as words and the bounds against 0 keep them.
 pub(crate) fn extended_bounds(bounds: &[i128; CELLS], vars: usize) -> [i128; CELLS]
     requires few { vars ≤ 16 }
     requires reach { AreInReach bounds.now }
-    ensures { IsTable (extended_bound bounds.now (vars + 1)) (vars + 1) result }
+    requires topped { AreUnderTop vars bounds.now }
+    ensures { IsTableBy (λ i j b. b ≡ extended_bound bounds.now (vars + 1) i j) (vars + 1) result }
 {
     let mut extended = [0; CELLS];
     for place in 0..18 * (vars + 2) {
@@ -53,20 +54,88 @@ pub(crate) fn extended_bounds(bounds: &[i128; CELLS], vars: usize) -> [i128; CEL
     extended
 }
 
-/// The bound on `i - j`, as words keep it where one of them is `last`; 0 where `j` is past it.
+/// The bound on `i - j`, as words and the bounds against 0 keep it where one of them is `last`; 0 where `j` is past it.
 fn extended_at(bounds: &[i128; CELLS], last: usize, i: usize, j: usize) -> i128
     requires i { i ≤ last }
     requires last { last ≤ 17 }
+    requires variable { 1 ≤ last }
     requires j { j ≤ 17 }
-    ensures { result ≡ inner_bound last j (extended_bound bounds.now last i j) }
+    requires reach { AreInReach bounds.now }
+    requires topped { AreUnderTop (last - 1) bounds.now }
+    ensures inside { j ≤ last → result ≡ extended_bound bounds.now last i j }
+    ensures outside { last < j → result ≡ pos 0 }
+    ensures reach { IsInReach result }
 {
     if j > last {
         return 0;
     }
-    if i == last || j == last {
-        return top_of(i, j);
+    if j == last {
+        return if i == last {
+            0
+        } else {
+            bounds[18 * i] + (1 << 63)
+        };
+    }
+    if i == last {
+        return i64::MAX as i128 + bounds[j];
     }
     bounds[18 * i + j]
+}
+
+/// The closed bounds, closed again with the bound on `i - j` lowered.
+///
+/// A path that the lower bound shortens goes once over it, so one look at each pair of things is enough.
+pub(crate) fn closed_bounds(
+    bounds: &[i128; CELLS],
+    vars: usize,
+    i: usize,
+    j: usize,
+    bound: i128,
+) -> [i128; CELLS]
+    requires few { vars ≤ 17 }
+    requires i { i ≤ vars }
+    requires j { j ≤ vars }
+    requires reach { AreInReach bounds.now }
+    requires bound { IsInReach bound }
+    requires closed { IsClosed (bound_at bounds.now) vars }
+    requires cycle { pos 0 ≤ℤ (bound +ℤ bound_at bounds.now j i) }
+    ensures { IsTableBy (λ p q b. b ≡ through_bound bounds.now i j bound p q) vars result }
+{
+    let mut closed = [0; CELLS];
+    for place in 0..18 * (vars + 1) {
+        closed[place] = closed_at(bounds, vars, i, j, bound, place / 18, place % 18);
+    }
+    closed
+}
+
+/// The bound on `p - q`, or that of the path over the bound on `i - j`; 0 where `q` is past the last thing.
+fn closed_at(
+    bounds: &[i128; CELLS],
+    vars: usize,
+    i: usize,
+    j: usize,
+    bound: i128,
+    p: usize,
+    q: usize,
+) -> i128
+    requires few { vars ≤ 17 }
+    requires i { i ≤ vars }
+    requires j { j ≤ vars }
+    requires p { p ≤ vars }
+    requires q { q ≤ 17 }
+    requires reach { AreInReach bounds.now }
+    requires bound { IsInReach bound }
+    requires closed { IsClosed (bound_at bounds.now) vars }
+    requires cycle { pos 0 ≤ℤ (bound +ℤ bound_at bounds.now j i) }
+    ensures inside { q ≤ vars → result ≡ through_bound bounds.now i j bound p q }
+    ensures outside { vars < q → result ≡ pos 0 }
+    ensures reach { IsInReach result }
+{
+    if q > vars {
+        return 0;
+    }
+    let through = bounds[18 * p + i] + bound + bounds[18 * j + q];
+    through.min(bounds[18 * p + q])
 }
 
 /// The bounds with those on the last variable in place of those on `to`, and none on the last.

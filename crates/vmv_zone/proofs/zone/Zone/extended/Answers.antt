@@ -1,6 +1,7 @@
 use Rattle.std.proofs.Common.{arith, rules, refl}
 use Rattle.std.proofs.lemmas.Int.{ints}
-use Rattle.vmv_zone.proofs.Confining.{extended_confines, confines_bottom, extended_under_top}
+use Rattle.vmv_zone.proofs.Closing.{extended_under}
+use Rattle.vmv_zone.proofs.Confining.{extended_confines, confines_bottom}
 use Rattle.vmv_zone.proofs.zone.Zone.extended.Goals as goal
 
 pub invariant_of-result : goal.invariant_of-result
@@ -8,7 +9,7 @@ invariant_of-result c = record {
   few = omega arith;
   full = c.extended_bounds-bounds.ensures.full;
   reach = c.extended_bounds-bounds.ensures.reach;
-  topped = λ i j hi hj. let e = c.extended_bounds-bounds.ensures.at i j hi hj in let top = extended_under_top c.args.self i j hi hj in omega (arith, ints);
+  topped = λ i j hi hj. let e = c.extended_bounds-bounds.ensures.at i j hi hj in let top = extended_under c.args.self.bounds c.args.self.vars i j hi hj c.args.self.topped in omega (arith, ints);
   outside = c.extended_bounds-bounds.ensures.outside;
   sized = c.args.self.sized;
   variables = λ i marked. let h = c.args.self.variables i marked in (h.0, omega (arith, h.1));

@@ -16,6 +16,9 @@ spanned-requires-2-clause-right c = operand_more _ _ _ (omega (arith, c.requires
 pub spanned-requires-3-clause-right : goal.spanned-requires-3-clause-right
 spanned-requires-3-clause-right c = operand_more _ _ _ (omega (arith, c.requires.vars, c.spanned.ensures.vars, c.spanned-2.ensures.vars)) c.requires.right
 
+pub spanned-requires-3-clause-closed : goal.spanned-requires-3-clause-closed
+spanned-requires-3-clause-closed c = c.spanned-2.ensures.closed (c.spanned.ensures.closed c.requires.closed)
+
 pub returns : goal.returns
 returns c = sum_of c.args.before.now c.args.fresh c.args.left c.args.right _ _ _ _ _ _ c.spanned.ensures c.spanned-2.ensures c.spanned-3.ensures
     (omega (arith, ints, c.ends-x.ensures.lo, c.ends-y.ensures.lo)) (omega (arith, ints, c.ends-x.ensures.hi, c.ends-y.ensures.hi))
