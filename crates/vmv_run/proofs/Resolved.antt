@@ -10,7 +10,9 @@ use Rattle.vmv_tree.specs.Tree.{Stmt, copy, compute, call, assert, choose, repea
 use Rattle.vmv_tree.specs.Run.{name_of}
 use Rattle.vmv_tree.specs.Mentions.{operand_mentions, test_mentions, mentions, block_mentions, item_mentions}
 use Rattle.vmv_tree.specs.Limits.{indexes_of, block_indexes}
-use Rattle.vmv_tree.specs.Valid.{Defect, Scope, Finds, Takes, InStmt, InBlock, InBody, InItem, InItems, Valid}
+use Rattle.vmv_tree.specs.declared.defect.Defect.{Defect}
+use Rattle.vmv_tree.specs.declared.defect.Defect.TheVariants.{UnknownName, Repeated}
+use Rattle.vmv_tree.specs.Valid.{Scope, Finds, Takes, InStmt, InBlock, InBody, InItem, InItems, Valid}
 use Rattle.vmv_run.specs.Callees.{Callees, BlockCallees, ItemCallees, Declares, IsResolved}
 
 -- the items of a list put onto those above, so that the last one is the nearest
@@ -91,7 +93,7 @@ mutual
   stmt_callees scope k (compute to op left right) distinct clean = tt
   stmt_callees scope k (call to callee args) distinct clean =
       ⊎_elim (λ (d : Declares scope.above callee). d)
-      (λ (none : NoTake scope.above callee). absurd (clean (k + 1) Defect.unknown_name (inr (inl (inl (refl, refl, none))))))
+      (λ (none : NoTake scope.above callee). absurd (clean (k + 1) UnknownName (inr (inl (inl (refl, refl, none))))))
       (declared_or_not scope.above callee distinct)
   stmt_callees scope k (assert test) distinct clean = tt
   stmt_callees scope k (choose test first second) distinct clean = (
@@ -123,9 +125,9 @@ item_resolved program above k (entry f params body) distinct clean =
     body_callees above (k + 1 + length params) (map (λ p. p.name) params) body distinct (λ m d h. clean m d (inr (inr (inr (inr (inr h))))))
 
 pub item_alone : (program above : List Item) (k : ℕ) (item : Item) → Clean (InItem program above k item) → IsAmong above (name_of item) → ⊥
-item_alone program above k (outside f arity) clean h = clean k Defect.repeated (inl (refl, refl, among_contains above f h))
-item_alone program above k (helper f params body) clean h = clean k Defect.repeated (inl (refl, refl, among_contains above f h))
-item_alone program above k (entry f params body) clean h = clean k Defect.repeated (inl (refl, refl, among_contains above f h))
+item_alone program above k (outside f arity) clean h = clean k Repeated (inl (refl, refl, among_contains above f h))
+item_alone program above k (helper f params body) clean h = clean k Repeated (inl (refl, refl, among_contains above f h))
+item_alone program above k (entry f params body) clean h = clean k Repeated (inl (refl, refl, among_contains above f h))
 
 -- what is above an item of a valid program
 pub record Above (program above : List Item) : Type 0 where

@@ -2,6 +2,8 @@
 -- k is the number of the first mention of what is looked at.
 use Rattle.std.specs.Prelude.{◌≡◌, ◌⊎◌, ℕ, ◌+◌, ◌<◌, ◌≤◌, min, pos, ◌<ℤ◌, List, [], ◌∷◌, ◌++◌, length, map}
 use Rattle.std.specs.List.{Contains}
+use Rattle.vmv_tree.specs.declared.defect.Defect.{Defect}
+use Rattle.vmv_tree.specs.declared.defect.Defect.TheVariants.{UnknownName, Repeated, ArityWrong, IndexAssigned, RangeEmpty, Limit}
 use Rattle.vmv_tree.specs.declared.name.Name.{Name}
 use Rattle.vmv_tree.specs.declared.tree.Operand.{Operand}
 use Rattle.vmv_tree.specs.declared.tree.Operand.TheVariants.{Lit, Var}
@@ -11,15 +13,6 @@ use Rattle.vmv_tree.specs.Tree.{Stmt, copy, compute, call, assert, choose, repea
 use Rattle.vmv_tree.specs.Run.{turns_of, name_of}
 use Rattle.vmv_tree.specs.Mentions.{operand_mentions, test_mentions, mentions, block_mentions, item_mentions}
 use Rattle.vmv_tree.specs.Limits.{outside_count, helper_count, entry_count, indexes_of, block_indexes, variables, block_statements, block_nesting, helper_depth, entry_numbers, distinct, call_paths, unrolled_steps, unrolled_calls}
-
-pub data Defect : Type 0 where
-  unknown_name : Defect
-  repeated : Defect
-  arity_wrong : Defect
-  index_assigned : Defect
-  range_empty : Defect
-  -- the number of the limit, what was found, and the most that it allows
-  limit : (which found most : ℕ) → Defect
 
 -- what a place in a procedure sees
 pub record Scope : Type 0 where
@@ -42,15 +35,15 @@ At k defect P m d = (m ≡ k) × (d ≡ defect) × P
 
 -- more than the limit allows; a number above 1,000,000,000 is told as that
 abbrev pub Over : ℕ → ℕ → ℕ → ℕ → Finds
-Over k which found most m d = At k (limit which (min found 1000000000) most) (most < found) m d
+Over k which found most m d = At k (Limit which (min found 1000000000) most) (most < found) m d
 
 -- an item that has 64 of its kind above it, of so many in the program
 abbrev pub TooMany : ℕ → ℕ → ℕ → ℕ → Finds
-TooMany k which found above m d = At k (limit which (min found 1000000000) 64) (above ≡ 64) m d
+TooMany k which found above m d = At k (Limit which (min found 1000000000) 64) (above ≡ 64) m d
 
 abbrev pub InOperand : Scope → ℕ → Operand → Finds
 InOperand scope k (Lit word) m d = ⊥
-InOperand scope k (Var name) m d = At k unknown_name (Contains scope.visible name → ⊥) m d
+InOperand scope k (Var name) m d = At k UnknownName (Contains scope.visible name → ⊥) m d
 
 abbrev pub InTest : Scope → ℕ → Test → Finds
 InTest scope k test m d = InOperand scope k test.left m d ⊎ InOperand scope (k + operand_mentions test.left) test.right m d
@@ -62,7 +55,7 @@ InArgs scope k (o ∷ args) m d = InOperand scope k o m d ⊎ InArgs scope (k + 
 -- an assigned name
 abbrev pub InTarget : Scope → ℕ → Name → Finds
 InTarget scope k to m d =
-    At k unknown_name (Contains scope.visible to → ⊥) m d ⊎ At k index_assigned (Contains scope.indexes to) m d
+    At k UnknownName (Contains scope.visible to → ⊥) m d ⊎ At k IndexAssigned (Contains scope.indexes to) m d
 
 -- some outside or helper item above has this name and takes n arguments
 abbrev pub Takes : List Item → Name → ℕ → Type 0
@@ -73,8 +66,8 @@ Takes (entry name params body ∷ above) callee n = Takes above callee n
 
 abbrev pub InCallee : Scope → ℕ → Name → ℕ → Finds
 InCallee scope k callee count m d =
-    At k unknown_name ((n : ℕ) → Takes scope.above callee n → ⊥) m d
-    ⊎ At k arity_wrong (((n : ℕ) × Takes scope.above callee n) × (Takes scope.above callee count → ⊥)) m d
+    At k UnknownName ((n : ℕ) → Takes scope.above callee n → ⊥) m d
+    ⊎ At k ArityWrong (((n : ℕ) × Takes scope.above callee n) × (Takes scope.above callee count → ⊥)) m d
 
 abbrev mutual
   pub InStmt : Scope → ℕ → Stmt → Finds
@@ -89,7 +82,7 @@ abbrev mutual
       ⊎ (InBlock scope (k + test_mentions test) first m d
       ⊎ InBlock (record scope { declared = scope.declared ++ block_indexes first }) (k + test_mentions test + block_mentions first) second m d)
   InStmt scope k (repeat index bound most body) m d =
-      At k repeated (Contains scope.declared index) m d
+      At k Repeated (Contains scope.declared index) m d
       ⊎ (InOperand scope (k + 1) bound m d
       ⊎ InBlock (record scope {
         visible = index ∷ scope.visible;
@@ -105,13 +98,13 @@ abbrev mutual
 -- a name that stands among those before it
 abbrev pub InNames : ℕ → List Name → List Name → Finds
 InNames k seen [] m d = ⊥
-InNames k seen (name ∷ names) m d = At k repeated (Contains seen name) m d ⊎ InNames (k + 1) (seen ++ name ∷ []) names m d
+InNames k seen (name ∷ names) m d = At k Repeated (Contains seen name) m d ⊎ InNames (k + 1) (seen ++ name ∷ []) names m d
 
 abbrev pub InParams : ℕ → List Name → List Param → Finds
 InParams k seen [] m d = ⊥
 InParams k seen (p ∷ params) m d =
-    At k repeated (Contains seen p.name) m d
-    ⊎ (At k range_empty (p.hi <ℤ p.lo) m d ⊎ InParams (k + 1) (seen ++ p.name ∷ []) params m d)
+    At k Repeated (Contains seen p.name) m d
+    ⊎ (At k RangeEmpty (p.hi <ℤ p.lo) m d ⊎ InParams (k + 1) (seen ++ p.name ∷ []) params m d)
 
 -- behind the parameters: the variables, the statements, the returned operand
 abbrev pub InBody : List Item → ℕ → List Name → Body → Finds
@@ -136,16 +129,16 @@ InEntry above k params body m d =
 
 abbrev pub InItem : List Item → List Item → ℕ → Item → Finds
 InItem program above k (outside name arity) m d =
-    At k repeated (Contains (map name_of above) name) m d
+    At k Repeated (Contains (map name_of above) name) m d
     ⊎ (TooMany k 1 (outside_count program) (outside_count above) m d ⊎ Over k 4 (turns_of arity) 16 m d)
 InItem program above k (helper name params body) m d =
-    At k repeated (Contains (map name_of above) name) m d
+    At k Repeated (Contains (map name_of above) name) m d
     ⊎ (TooMany k 2 (helper_count program) (helper_count above) m d
     ⊎ (InProcedure k params body m d
     ⊎ (Over k 8 (helper_depth above body) 16 m d
     ⊎ (InNames (k + 1) [] params m d ⊎ InBody above (k + 1 + length params) params body m d))))
 InItem program above k (entry name params body) m d =
-    At k repeated (Contains (map name_of above) name) m d
+    At k Repeated (Contains (map name_of above) name) m d
     ⊎ (TooMany k 3 (entry_count program) (entry_count above) m d
     ⊎ (InProcedure k (map (λ p. p.name) params) body m d
     ⊎ (InEntry above k params body m d
@@ -167,12 +160,12 @@ Valid program = (m : ℕ) (d : Defect) → HasDefect program m d → ⊥
 
 -- the order of the defects at one mention
 abbrev pub rank : Defect → ℕ
-rank unknown_name = 1
-rank repeated = 2
-rank arity_wrong = 3
-rank index_assigned = 4
-rank range_empty = 5
-rank (limit which found most) = 5 + which
+rank UnknownName = 1
+rank Repeated = 2
+rank ArityWrong = 3
+rank IndexAssigned = 4
+rank RangeEmpty = 5
+rank (Limit which found most) = 5 + which
 
 -- the defect that is answered: the least mention, and there the least number
 pub record FirstDefect (program : List Item) (m : ℕ) (d : Defect) : Type 0 where

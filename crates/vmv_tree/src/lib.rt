@@ -4,9 +4,11 @@
 //! are, and what it means that an environment is safe for a program and that a revision is relatively correct.
 #![tactic(auto)]
 
+mod defect;
 mod name;
 mod tree;
 
+pub use defect::Defect;
 pub use name::Name;
 pub use tree::{
     Args, Block, Body, Item, Items, Names, Op, Operand, Param, Params, Program, Rel, Stmt, Test,

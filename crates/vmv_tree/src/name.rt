@@ -6,7 +6,7 @@ use std::marker::Model;
 
 /// A name: a letter or `_`, then letters, digits and `_`, all of ASCII, 1 to 64 bytes, and no keyword. A contract sees
 /// it as its bytes.
-#[derive(Clone, Copy, PartialEq, Eq, Debug, Drop)]
+#[derive(Clone, Copy, PartialEq, Eq, Hash, Debug, Drop)]
 pub struct Name {
     bytes: [u8; 64],
     len: u8,
