@@ -12,7 +12,7 @@ use Rattle.vmv_tree.specs.Tree.{Stmt, copy, compute, call, assert, choose, repea
 use Rattle.vmv_text.specs.declared.token.Token.{Token}
 use Rattle.vmv_text.specs.declared.token.Token.TheVariants.{Named, Number, IfWord, ElseWord, RepeatWord, CapWord, AssertWord, OpenParen, CloseBrace, ReturnWord, CloseParen, Semicolon, Comma, Dots}
 use Rattle.vmv_text.specs.Grammar.{Takes, IsLit, IsName, IsOperand, IsTest, IsParam, Commas, AnyCommas, IsStmt, AreStmts, Braces, op_token, rel_token}
-use Rattle.vmv_text.specs.Parts.{Lacks}
+use Rattle.vmv_text.specs.Reading.{Lacks}
 
 pub lit_once : (z w : ℤ) (ts r q : List Token) → IsLit z ts r → IsLit w ts q → (z ≡ w) × (r ≡ q)
 lit_once z w ts r q (inl (n, a, b)) (inl (m, c, d)) = (cc (a, b, c, d), cc (b, d))
@@ -99,7 +99,7 @@ semicolon-no_comma r x h = cc h
 abbrev pub NeverCloses : {A : Type 0} → (A → Takes) → Type 0
 NeverCloses {A} one = (x : A) (ts r q : List Token) → one x ts r → ts ≡ CloseParen ∷ q → ⊥
 
-commas_close : {A : Type 0} (one : A → Takes) → NeverCloses one → (xs : List A) (ts r q : List Token) → Commas one xs ts r → ts ≡ CloseParen ∷ q → ⊥
+pub commas_close : {A : Type 0} (one : A → Takes) → NeverCloses one → (xs : List A) (ts r q : List Token) → Commas one xs ts r → ts ≡ CloseParen ∷ q → ⊥
 commas_close one f [] ts r q h k = h
 commas_close one f (x ∷ []) ts r q h k = f x ts r q h k
 commas_close one f (x ∷ y ∷ xs) ts r q h k = f x ts _ q h.1 k
@@ -195,7 +195,7 @@ no_stmt s t ts r q e h k = kind-some s (sym (kind-first s ts r h) ∙ (ap kind_a
 pub stmt_no_else : (s : Stmt) (ts r : List Token) → IsStmt s ts r → NoElse ts
 stmt_no_else s ts r h x k = kind-some s (sym (kind-first s ts r h) ∙ ap kind_at k)
 
-block_no_else : (b : Block) (t : Token) (ts r : List Token) → Ends_at t → AreStmts b ts (t ∷ r) → NoElse ts
+pub block_no_else : (b : Block) (t : Token) (ts r : List Token) → Ends_at t → AreStmts b ts (t ∷ r) → NoElse ts
 unfolding AreStmts
 block_no_else [] t ts r (inl e) h x k = cc (e, h, k)
 block_no_else [] t ts r (inr e) h x k = cc (e, h, k)
@@ -206,7 +206,7 @@ pub called : (o : Operand) (f : Name) (ts p q : List Token) → ts ≡ Named f �
 called (Var x) f ts p q h k = cc (h, k)
 called (Lit z) f ts p q h k = absurd (no_name z f ts q _ k h)
 
-op_paren : (a : Op) (x y : List Token) → ◌≡◌ {A = List Token} (op_token a ∷ x) (OpenParen ∷ y) → ⊥
+pub op_paren : (a : Op) (x y : List Token) → ◌≡◌ {A = List Token} (op_token a ∷ x) (OpenParen ∷ y) → ⊥
 op_paren Add x y h = cc h
 op_paren Sub x y h = cc h
 op_paren Mul x y h = cc h

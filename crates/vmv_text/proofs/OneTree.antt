@@ -5,9 +5,14 @@ use Rattle.vmv_tree.specs.Tree.{Block, [], ◌⨾◌, Body, Item, outside, helpe
 use Rattle.vmv_text.specs.declared.token.Token.{Token}
 use Rattle.vmv_text.specs.declared.token.Token.TheVariants.{VarWord, ReturnWord, CloseBrace, CloseParen, Semicolon}
 use Rattle.vmv_text.specs.Grammar.{IsName, IsOperand, IsParam, Commas, AnyCommas, AreStmts, IsVars, IsInBody, IsBody, IsItem, IsProgram, IsText}
-use Rattle.vmv_text.specs.Parts.{EndsVars}
+use Rattle.vmv_text.specs.Reading.{NoVar}
 use Rattle.vmv_text.specs.Tokens.{tokens}
 use Rattle.vmv_text.proofs.OneBlock.{operand_once, name_once, name_close, param_once, param_close, commas_once, any_commas_once, semicolon-no_comma, kind_at, kind-first, kind-some, block_once, BlockOnce}
+
+-- where there are no variables, no declaration of them begins
+abbrev EndsVars : List Name → List Token → Type 0
+EndsVars [] ts = NoVar ts
+EndsVars (x ∷ xs) ts = Unit {0}
 
 -- statements up to `return` begin with no `var`
 pub stmts_no_var : (b : Block) (ts r q : List Token) → AreStmts b ts (ReturnWord ∷ r) → ts ≡ VarWord ∷ q → ⊥
@@ -15,11 +20,11 @@ unfolding AreStmts
 stmts_no_var [] ts r q h k = cc (h, k)
 stmts_no_var (s ⨾ b) ts r q h k = kind-some s (sym (kind-first s ts h.0 h.1) ∙ ap kind_at k)
 
-pub stmts-end_vars : (xs : List Name) (b : Block) (ts r : List Token) → AreStmts b ts (ReturnWord ∷ r) → EndsVars xs ts
+stmts-end_vars : (xs : List Name) (b : Block) (ts r : List Token) → AreStmts b ts (ReturnWord ∷ r) → EndsVars xs ts
 stmts-end_vars [] b ts r h = λ x k. stmts_no_var b ts r x h k
 stmts-end_vars (y ∷ ys) b ts r h = tt
 
-pub vars_once : (xs ys : List Name) (ts r q : List Token) → EndsVars xs r → EndsVars ys q → IsVars xs ts r → IsVars ys ts q → (xs ≡ ys) × (r ≡ q)
+vars_once : (xs ys : List Name) (ts r q : List Token) → EndsVars xs r → EndsVars ys q → IsVars xs ts r → IsVars ys ts q → (xs ≡ ys) × (r ≡ q)
 vars_once [] [] ts r q f g h k = (refl, sym h ∙ k)
 vars_once [] (y ∷ ys) ts r q f g h k = absurd (f k.0 (sym h ∙ k.1))
 vars_once (x ∷ xs) [] ts r q f g h k = absurd (g h.0 (sym k ∙ h.1))

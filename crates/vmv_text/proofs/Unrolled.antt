@@ -4,7 +4,8 @@ use Rattle.std.specs.Prelude.{◌==◌, if◌then◌else◌, unwrap_or}
 use Rattle.std.specs.Option.{option_map}
 use Rattle.vmv_tree.specs.Names.{is_letter, is_digit}
 use Rattle.vmv_text.specs.declared.token.Token.{Token}
-use Rattle.vmv_text.specs.Tokens.{Placed, is_white, begins_with, after_gap, token_at, mark_token, token_and, tokens_in, placed_tokens, tokens_of, tokens, spelled, pairs}
+use Rattle.vmv_text.specs.Faults.{left_from}
+use Rattle.vmv_text.specs.Tokens.{Placed, is_white, begins_with, after_gap, token_at, mark_token, token_and, tokens_in, placed_tokens, spelled, pairs}
 
 mark_some : (o : Option Token) (t : Token) → 0 < (unwrap_or {T = Token × ℕ} (option_map (λ (t : Token). (t, 2)) o) (t, 1)).1
 mark_some None t = omega arith
@@ -55,21 +56,25 @@ placed_tokens-step (b ∷ rest) =
     and_same (tokens_in (length rest)) placed_tokens (after_gap false (b ∷ rest)) (λ back less. tokens_in-enough (length rest) (length back) back (omega arith) (omega arith))
 
 -- the tokens of a text with nothing in front, and of one with a token there
-pub tokens-none : (text : List ℕ) → after_gap false text ≡ [] → tokens text ≡ []
-unfolding tokens
-tokens-none text h = ap tokens_of (placed_tokens-step text) ∙ ap (λ t. tokens_of (token_and placed_tokens t)) h
+pub placed-none : (text : List ℕ) → after_gap false text ≡ [] → placed_tokens text ≡ []
+placed-none text h = placed_tokens-step text ∙ ap (λ t. token_and placed_tokens t) h
 
-pub tokens-some : (text : List ℕ) (b : ℕ) (rest : List ℕ) → after_gap false text ≡ b ∷ rest → tokens text ≡ (token_at (b ∷ rest)).0 ∷ tokens (drop (token_at (b ∷ rest)).1 (b ∷ rest))
-unfolding tokens
-tokens-some text b rest h = ap tokens_of (placed_tokens-step text) ∙ ap (λ t. tokens_of (token_and placed_tokens t)) h
+placed-some : (text : List ℕ) (b : ℕ) (rest : List ℕ) → after_gap false text ≡ b ∷ rest → placed_tokens text ≡ record { token = (token_at (b ∷ rest)).0; from = b ∷ rest } ∷ placed_tokens (drop (token_at (b ∷ rest)).1 (b ∷ rest))
+placed-some text b rest h = placed_tokens-step text ∙ ap (λ t. token_and placed_tokens t) h
 
 -- the same for what is left behind the gap, as a list that isn't taken apart
-pub tokens-first : (text at : List ℕ) → after_gap false text ≡ at → 0 < length at → tokens text ≡ (token_at at).0 ∷ tokens (drop (token_at at).1 at)
-tokens-first text [] h k = absurd (omega arith)
-tokens-first text (b ∷ rest) h k = tokens-some text b rest h
+pub placed-first : (text at : List ℕ) → after_gap false text ≡ at → 0 < length at → placed_tokens text ≡ record { token = (token_at at).0; from = at } ∷ placed_tokens (drop (token_at at).1 at)
+placed-first text [] h k = absurd (omega arith)
+placed-first text (b ∷ rest) h k = placed-some text b rest h
 
 pub first_longer : (at : List ℕ) → 0 < length at → 0 < (token_at at).1
 first_longer [] h = absurd (omega arith)
 first_longer (b ∷ rest) h = some_bytes b rest
 
-pub ruleset unrolled = (tokens-none, tokens-first, first_longer)
+-- what is left from the next token on
+pub left-gap : (text : List ℕ) → left_from (placed_tokens text) ≡ after_gap false text
+left-gap text = by_gap (after_gap false text) refl
+  where
+    by_gap : (at : List ℕ) → after_gap false text ≡ at → left_from (placed_tokens text) ≡ at
+    by_gap [] h = ap left_from (placed-none text h)
+    by_gap (b ∷ rest) h = ap left_from (placed-some text b rest h)

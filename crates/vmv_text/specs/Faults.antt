@@ -1,7 +1,10 @@
 -- Where a text's syntax fault stands.
-use Rattle.std.specs.Prelude.{◌≡◌, ℕ, ◌+◌, ◌-◌, ◌<◌, ◌==◌, not, List, [], ◌∷◌, ◌++◌, length, take, drop, count_by}
+use Rattle.std.specs.Prelude.{◌≡◌, ℕ, ◌+◌, ◌-◌, ◌<◌, ◌≤◌, ◌==◌, not, List, [], ◌∷◌, ◌++◌, length, take, drop, count_by}
 use Rattle.std.specs.List.{suffix_len}
+use Rattle.std.specs.Str.{IsUtf8, IsValidUpTo}
 use Rattle.vmv_tree.specs.Tree.{Item}
+use Rattle.vmv_text.specs.declared.fault.ReadFault.{ReadFault}
+use Rattle.vmv_text.specs.declared.fault.ReadFault.TheVariants.{TooLong, NotUtf8, Syntax, Memory}
 use Rattle.vmv_text.specs.declared.token.Token.{Token}
 use Rattle.vmv_text.specs.Tokens.{Placed, placed_tokens, tokens}
 use Rattle.vmv_text.specs.Grammar.{IsProgram}
@@ -41,3 +44,18 @@ pub record HasFault (text : List ℕ) (line column : ℕ) : Type 0 where
   pub fault : FaultAt (tokens text) token
   pub line_is : line ≡ line_after (front_at text token)
   pub column_is : column ≡ column_after (front_at text token)
+
+-- a syntax fault behind this front
+abbrev pub IsPlace : List ℕ → ReadFault → Type 0
+IsPlace front (TooLong found) = ⊥
+IsPlace front (NotUtf8 at) = ⊥
+IsPlace front (Syntax line column) = (line ≡ line_after front) × (column ≡ column_after front)
+IsPlace front Memory = ⊥
+
+-- Why a text isn't read: it is too long; it isn't UTF-8, and its longest front that is has so many bytes; or it has
+-- its syntax fault there. Want of memory says nothing.
+abbrev pub IsReadFault : List ℕ → ReadFault → Type 0
+IsReadFault text (TooLong found) = (1048576 < length text) × (found ≡ length text)
+IsReadFault text (NotUtf8 at) = (length text ≤ 1048576) × IsValidUpTo text at
+IsReadFault text (Syntax line column) = (length text ≤ 1048576) × IsUtf8 text × HasFault text line column
+IsReadFault text Memory = Unit {0}

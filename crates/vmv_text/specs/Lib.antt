@@ -2,4 +2,6 @@ pub mod Tokens
 pub mod Grammar
 pub mod Faults
 pub mod First
-pub mod Parts
+pub mod Symbols
+pub mod Reading
+pub mod Mentioned

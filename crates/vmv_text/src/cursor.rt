@@ -1,8 +1,13 @@
-ghost use Rattle.std.specs.Prelude.{◌≡◌, ◌<◌, ◌↔◌, List, [], ◌∷◌, length, IsTrue, OnSome, MatchOption};
-ghost use Rattle.vmv_text.specs.declared.token.Token.{Token};
-ghost use Rattle.vmv_text.specs.Tokens.{tokens};
+ghost use Rattle.std.specs.Prelude.{◌≡◌, ◌≤◌, ◌<◌, length, drop, IsTrue, OnOk};
+ghost use Rattle.std.specs.Bool.{OnTrue};
+ghost use Rattle.vmv_text.specs.Tokens.{placed_tokens};
+ghost use Rattle.vmv_text.specs.Faults.{left_from};
+ghost use Rattle.vmv_text.specs.Symbols.{as_token};
+ghost use Rattle.vmv_text.specs.Reading.{Reads, Tests, IsToken, first_of};
 
+use crate::fault::Fault;
 use crate::lexer::{behind_gap, token_at};
+use crate::symbol::{Symbol, is_token};
 use crate::token::Token;
 use std::marker::Model;
 
@@ -13,43 +18,79 @@ pub(crate) struct Cursor<'a> {
 }
 
 impl<'a> Model for Cursor<'a> {
-    ghost use Rattle.std.specs.Prelude.{ℕ, List};
+    ghost use Rattle.std.specs.Prelude.{List};
+    ghost use Rattle.vmv_text.specs.Tokens.{Placed, placed_tokens};
 
-    ghost Value = { List ℕ };
+    ghost Value = { List Placed };
 
-    ghost view = { λ c. c.left.now };
+    ghost view = { λ c. placed_tokens c.left.now };
 }
 
 impl<'a> Cursor<'a> {
     pub(crate) fn new(text: &'a [u8]) -> Cursor<'a>
-        ensures { result ≡ text.now }
+        ensures { result ≡ placed_tokens text.now }
     {
         Cursor { left: text }
     }
 }
 
 impl Cursor<'_> {
-    /// Takes the next token, if there is one.
-    #[tactic(auto, using(crate::proofs::Unrolled::unrolled))]
-    pub(crate) fn next(&mut self) -> Option<Token>
-        ensures token { MatchOption result (tokens self.old ≡ []) (λ t. tokens self.old ≡ t ∷ tokens self.new) }
-        ensures shorter { OnSome result (length self.new < length self.old) }
+    /// The next token, which stays.
+    pub(crate) fn peek(&self) -> Option<Token>
+        ensures { result ≡ first_of self.now }
     {
         let text = behind_gap(self.left);
         if text.is_empty() {
             return None;
         }
-        let (token, len) = token_at(text);
-        let (_token, rest) = text.split_at(len);
-        self.left = rest;
+        let (token, _len) = token_at(text);
         Some(token)
     }
 
-    /// The next token, which stays.
-    pub(crate) fn peek(&self) -> Option<Token>
-        ensures { MatchOption result (tokens self.now ≡ []) (λ t. (rest : List Token) × (tokens self.now ≡ t ∷ rest)) }
+    /// Leaves out the next token.
+    pub(crate) fn skip(&mut self)
+        ensures exact { self.new ≡ drop 1 self.old }
+        ensures shorter { 0 < length self.old → length self.new < length self.old }
     {
-        let mut ahead = Cursor { left: self.left };
-        ahead.next()
+        let text = behind_gap(self.left);
+        if text.is_empty() {
+            return;
+        }
+        let (_token, len) = token_at(text);
+        let (_front, rest) = text.split_at(len);
+        self.left = rest;
+    }
+
+    /// How many bytes are left from the next token on.
+    pub(crate) fn left(&self) -> usize
+        ensures { result ≡ length (left_from self.now) }
+    {
+        behind_gap(self.left).len()
+    }
+
+    /// Takes the next token, which must be this one.
+    pub(crate) fn expect(&mut self, wanted: Symbol) -> Result<(), Fault>
+        ensures reads { Reads (IsToken (as_token wanted)) result self.old self.new }
+        ensures shorter { OnOk result (length self.new < length self.old) }
+    {
+        if self.takes(wanted) {
+            Ok(())
+        } else {
+            Err(Fault::Syntax)
+        }
+    }
+
+    /// Takes the next token, if it is this one.
+    pub(crate) fn takes(&mut self, wanted: Symbol) -> bool
+        ensures tests { Tests (as_token wanted) result self.old self.new }
+        ensures shorter { OnTrue result (length self.new < length self.old) }
+        ensures within { length self.new ≤ length self.old }
+    {
+        if is_token(self.peek(), wanted) {
+            self.skip();
+            true
+        } else {
+            false
+        }
     }
 }

@@ -1,5 +1,6 @@
 ghost use Rattle.std.specs.Prelude.{◌≡◌};
-ghost use Rattle.vmv_text.specs.declared.fault.FirstFault.TheVariants.{Memory};
+ghost use Rattle.vmv_text.specs.declared.fault.FirstFault.TheVariants as first;
+ghost use Rattle.vmv_text.specs.declared.fault.Fault.TheVariants.{Memory};
 
 use std::alloc::AllocError;
 
@@ -13,9 +14,38 @@ pub enum FirstFault {
 }
 
 impl From<AllocError> for FirstFault {
-    ghost from_gives = { λ _ e. e ≡ Memory };
+    ghost from_gives = { λ _ e. e ≡ first.Memory };
 
     fn from(_e: AllocError) -> FirstFault {
         FirstFault::Memory
+    }
+}
+
+/// Why a text was not read as a program.
+#[derive(Clone, Copy, PartialEq, Eq, Debug)]
+pub enum ReadFault {
+    /// The text has more than 1,048,576 bytes: so many.
+    TooLong { found: usize },
+    /// The text isn't UTF-8: its longest front that is has so many bytes.
+    NotUtf8 { at: usize },
+    /// No program has the text. Its tokens begin a program's up to this place, and no further. Lines and columns are
+    /// counted from 1, columns in bytes; the end of the text is behind its last byte.
+    Syntax { line: u32, column: u32 },
+    /// Memory ran out.
+    Memory,
+}
+
+/// Why a part of a program was not read. The cursor stands before the token at fault.
+#[derive(Clone, Copy, PartialEq, Eq, Debug)]
+pub(crate) enum Fault {
+    Syntax,
+    Memory,
+}
+
+impl From<AllocError> for Fault {
+    ghost from_gives = { λ _ e. e ≡ Memory };
+
+    fn from(_e: AllocError) -> Fault {
+        Fault::Memory
     }
 }

@@ -1,33 +1,16 @@
-ghost use Rattle.std.specs.Prelude.{◌≡◌, ℕ, List, IfOk, IsErrOf};
+ghost use Rattle.std.specs.Prelude.{◌≡◌, List, IfOk, IsErrOf};
 ghost use Rattle.vmv_tree.specs.Tree.{Item};
 ghost use Rattle.vmv_tree.specs.View.{program_of};
 ghost use Rattle.vmv_text.specs.declared.fault.FirstFault.TheVariants.{NotBuilt};
-ghost use Rattle.vmv_text.specs.Tokens.{tokens};
-ghost use Rattle.vmv_text.specs.Grammar.{IsProgram, IsText};
+ghost use Rattle.vmv_text.specs.Grammar.{IsText};
 ghost use Rattle.vmv_text.specs.First.{IsFirst};
-ghost use Rattle.vmv_text.specs.Parts.{IsStraightProgram};
 
 use crate::class::is_first;
 use crate::cursor::Cursor;
-use crate::fault::FirstFault;
+use crate::fault::{Fault, FirstFault};
 use std::alloc::Global;
 use std::str;
-use vmv_tree::{Items, Program};
-
-/// The program of the text, if it is one entry whose statements stand in a straight line.
-fn straight_program(alloc: Global, text: &[u8]) -> Result<Program, FirstFault>
-    ensures program { IfOk result (λ p. IsProgram (program_of p) (tokens text.now)) }
-    ensures not_built { IsErrOf result NotBuilt → (items : List Item) → IsStraightProgram items → IsProgram items (tokens text.now) → ⊥ }
-{
-    let mut cursor = Cursor::new(text);
-    let item = cursor.entry(alloc)?;
-    let None = cursor.peek() else {
-        return Err(FirstFault::NotBuilt);
-    };
-    let mut items = Items::new(alloc);
-    items.push(item)?;
-    Ok(Program { items })
-}
+use vmv_tree::Program;
 
 /// Reads the text of a program of the first class.
 ///
@@ -44,18 +27,19 @@ pub fn read_first(alloc: Global, text: &[u8]) -> Result<Program, FirstFault>
     if str::from_utf8(text).is_err() {
         return Err(FirstFault::NotBuilt);
     }
-    let program = straight_program(alloc, text)?;
+    let mut cursor = Cursor::new(text);
+    let items = match cursor.items(alloc) {
+        Ok(items) => items,
+        Err(Fault::Syntax) => return Err(FirstFault::NotBuilt),
+        Err(Fault::Memory) => return Err(FirstFault::Memory),
+    };
+    let program = Program { items };
     if is_first(alloc, &program)? {
         Ok(program)
     } else {
         Err(FirstFault::NotBuilt)
     }
 }
-
-/// No text is that of two programs.
-pub fn one_program()
-    ensures { (bytes : List ℕ) (p q : List Item) → IsText bytes p → IsText bytes q → p ≡ q }
-{}
 
 #[cfg(test)]
 mod tests;

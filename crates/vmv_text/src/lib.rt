@@ -1,20 +1,27 @@
 //! The texts of programs: tokens, grammar, and what reads them.
 //!
 //! A text is read once, token by token, by a cursor that knows what is left of it. Each reader of a part either takes
-//! that part off the front, or says that no such part begins there.
+//! that part off the front, or leaves the cursor before the first token with which no such part can go on.
 #![tactic(auto)]
 
+mod block;
 mod class;
 mod cursor;
-mod entry;
 mod fault;
 mod first;
+mod item;
+mod laws;
 mod lexer;
 mod lists;
+mod mention;
 mod operand;
+mod read;
 mod statement;
-mod symbols;
+mod symbol;
 mod token;
 
-pub use fault::FirstFault;
-pub use first::{one_program, read_first};
+pub use fault::{FirstFault, ReadFault};
+pub use first::read_first;
+pub use laws::{no_program_at_fault, one_fault, one_program};
+pub use mention::{mention_place, names_are_mentions};
+pub use read::read_program;

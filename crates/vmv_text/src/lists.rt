@@ -1,82 +1,100 @@
-ghost use Rattle.std.specs.Prelude.{◌<◌, length, OnSome};
-ghost use Rattle.vmv_text.specs.Grammar.{IsName, IsParam};
-ghost use Rattle.vmv_text.specs.Parts.{Reads, Builds, BuildsCommas, BuildsVars, AreParams};
+ghost use Rattle.std.specs.Prelude.{◌≡◌};
+ghost use Rattle.vmv_text.specs.declared.token.Token.TheVariants.{Comma, CloseParen};
+ghost use Rattle.vmv_text.specs.Grammar.{IsName, IsOperand, IsParam};
+ghost use Rattle.vmv_text.specs.Symbols.{as_token};
+ghost use Rattle.vmv_text.specs.Reading.{Reads, CommasTo, Listed};
 
 use crate::cursor::Cursor;
-use crate::fault::FirstFault;
+use crate::fault::Fault;
+use crate::symbol::Symbol;
 use std::alloc::Global;
-use vmv_tree::{Names, Param, Params};
+use vmv_tree::{Args, Names, Param, Params};
 
 impl Cursor<'_> {
-    /// Names with commas between them.
-    fn names(&mut self, alloc: Global) -> Result<Names, FirstFault>
-        ensures { BuildsCommas IsName result self.old self.new }
+    /// Names with commas between them, and the token behind them.
+    pub(crate) fn names_to(&mut self, alloc: Global, last: Symbol) -> Result<Names, Fault>
+        requires { as_token last ≡ Comma → ⊥ }
+        ensures { Reads (CommasTo (as_token last) IsName) result self.old self.new }
     {
         let mut names = Names::new(alloc);
         loop {
-            let Some(name) = self.name() else {
-                return Err(FirstFault::NotBuilt);
-            };
+            let name = self.name()?;
             names.push(name)?;
-            if !self.has_comma() {
+            if !self.takes(Symbol::Comma) {
+                self.expect(last)?;
                 return Ok(names);
             }
         }
     }
 
-    /// The variables that a body declares.
-    pub(crate) fn vars(&mut self, alloc: Global) -> Result<Names, FirstFault>
-        ensures { BuildsVars result self.old self.new }
+    /// Operands with commas between them, and the closing parenthesis.
+    fn some_operands(&mut self, alloc: Global) -> Result<Args, Fault>
+        ensures { Reads (CommasTo CloseParen IsOperand) result self.old self.new }
     {
-        if !self.has_var() {
-            return Ok(Names::new(alloc));
+        let mut args = Args::new(alloc);
+        loop {
+            let arg = self.operand()?;
+            args.push(arg)?;
+            if !self.takes(Symbol::Comma) {
+                self.expect(Symbol::CloseParen)?;
+                return Ok(args);
+            }
         }
-        let names = self.names(alloc)?;
-        let Some(()) = self.semicolon() else {
-            return Err(FirstFault::NotBuilt);
-        };
-        Ok(names)
     }
 
-    fn param(&mut self) -> Option<Param>
-        ensures reads { Reads IsParam result self.old self.new }
-        ensures shorter { OnSome result (length self.new < length self.old) }
+    fn param(&mut self) -> Result<Param, Fault>
+        ensures { Reads IsParam result self.old self.new }
     {
         let name = self.name()?;
-        self.colon()?;
+        self.expect(Symbol::Colon)?;
         let lo = self.lit()?;
-        self.dots()?;
+        self.expect(Symbol::Dots)?;
         let hi = self.lit()?;
-        Some(Param { name, lo, hi })
+        Ok(Param { name, lo, hi })
     }
 
-    /// Parameters with commas between them.
-    fn some_params(&mut self, alloc: Global) -> Result<Params, FirstFault>
-        ensures { BuildsCommas IsParam result self.old self.new }
+    /// Parameters with commas between them, and the closing parenthesis.
+    fn some_params(&mut self, alloc: Global) -> Result<Params, Fault>
+        ensures { Reads (CommasTo CloseParen IsParam) result self.old self.new }
     {
         let mut params = Params::new(alloc);
         loop {
-            let Some(param) = self.param() else {
-                return Err(FirstFault::NotBuilt);
-            };
+            let param = self.param()?;
             params.push(param)?;
-            if !self.has_comma() {
+            if !self.takes(Symbol::Comma) {
+                self.expect(Symbol::CloseParen)?;
                 return Ok(params);
             }
         }
     }
 
-    /// An entry's parameters, behind the opening parenthesis.
-    pub(crate) fn params(&mut self, alloc: Global) -> Result<Params, FirstFault>
-        ensures { Builds (λ params. params) AreParams result self.old self.new }
+    /// A helper's parameters, and the closing parenthesis.
+    pub(crate) fn names(&mut self, alloc: Global) -> Result<Names, Fault>
+        ensures { Reads (Listed IsName) result self.old self.new }
     {
-        if self.has_close() {
+        if self.takes(Symbol::CloseParen) {
+            return Ok(Names::new(alloc));
+        }
+        self.names_to(alloc, Symbol::CloseParen)
+    }
+
+    /// The arguments of a call, and the closing parenthesis.
+    pub(crate) fn operands(&mut self, alloc: Global) -> Result<Args, Fault>
+        ensures { Reads (Listed IsOperand) result self.old self.new }
+    {
+        if self.takes(Symbol::CloseParen) {
+            return Ok(Args::new(alloc));
+        }
+        self.some_operands(alloc)
+    }
+
+    /// An entry's parameters, and the closing parenthesis.
+    pub(crate) fn params(&mut self, alloc: Global) -> Result<Params, Fault>
+        ensures { Reads (Listed IsParam) result self.old self.new }
+    {
+        if self.takes(Symbol::CloseParen) {
             return Ok(Params::new(alloc));
         }
-        let params = self.some_params(alloc)?;
-        let Some(()) = self.close_paren() else {
-            return Err(FirstFault::NotBuilt);
-        };
-        Ok(params)
+        self.some_params(alloc)
     }
 }

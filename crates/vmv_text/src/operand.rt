@@ -1,17 +1,53 @@
-ghost use Rattle.std.specs.Prelude.{◌≡◌, ◌⊎◌, ◌<◌, ◌^◌, ℕ, pos, neg_ℤ, ◌∷◌, length, OnSome, MatchOption};
+ghost use Rattle.std.specs.Prelude.{◌≡◌, ℕ, pos, MatchOption};
+ghost use Rattle.vmv_tree.specs.declared.name.Name.{Name};
 ghost use Rattle.vmv_tree.specs.declared.tree.Op.{Op};
-ghost use Rattle.vmv_text.specs.Grammar.{IsName, IsLit, IsOperand, IsTest, op_token};
-ghost use Rattle.vmv_text.specs.Parts.{Reads, IsRel, IsNegative};
+ghost use Rattle.vmv_tree.specs.declared.tree.Rel.{Rel};
+ghost use Rattle.vmv_text.specs.declared.token.Token.TheVariants.{Named, Number};
+ghost use Rattle.vmv_text.specs.Grammar.{IsName, IsLit, IsOperand, IsTest, op_token, rel_token};
+ghost use Rattle.vmv_text.specs.Reading.{Reads, IsOp, IsRel, IsSmall, IsNegative, IsNoSize, IsSizeOf};
 
 use crate::cursor::Cursor;
+use crate::fault::Fault;
+use crate::symbol::Symbol;
 use crate::token::Token;
 use vmv_tree::{Name, Op, Operand, Rel, Test};
 
-/// The operation that a token stands for.
-pub(crate) fn op_of(token: Token) -> Option<Op>
-    ensures { MatchOption result ((op : Op) → token ≡ op_token op → ⊥) (λ op. token ≡ op_token op) }
+/// The name that a token is.
+pub(crate) fn name_of(token: Option<Token>) -> Option<Name>
+    ensures { MatchOption result ((x : Name) → token ≡ Some (Named x) → ⊥) (λ x. token ≡ Some (Named x)) }
 {
-    match token {
+    match token? {
+        Token::Named(name) => Some(name),
+        _ => None,
+    }
+}
+
+/// The number from 0 to 2^63 - 1 that a token is.
+fn small_of(token: Option<Token>) -> Option<i64>
+    ensures { MatchOption result ((n : ℕ) → token ≡ Some (Number n) → ⊥) (λ z. (n : ℕ) × (z ≡ pos n) × (token ≡ Some (Number n))) }
+{
+    match token? {
+        Token::Number(number) => Some(number.word()),
+        _ => None,
+    }
+}
+
+/// The word that a token is behind `-`.
+fn negative_of(token: Option<Token>) -> Option<i64>
+    ensures { MatchOption result (IsNoSize token) (λ z. IsSizeOf z token) }
+{
+    match token? {
+        Token::Number(number) => Some(number.negated()),
+        Token::Edge => Some(i64::MIN),
+        _ => None,
+    }
+}
+
+/// The operation that a token stands for.
+fn op_of(token: Option<Token>) -> Option<Op>
+    ensures { MatchOption result ((op : Op) → token ≡ Some (op_token op) → ⊥) (λ op. token ≡ Some (op_token op)) }
+{
+    match token? {
         Token::Plus => Some(Op::Add),
         Token::Minus => Some(Op::Sub),
         Token::Star => Some(Op::Mul),
@@ -21,74 +57,101 @@ pub(crate) fn op_of(token: Token) -> Option<Op>
     }
 }
 
+/// The comparison that a token stands for.
+fn rel_of(token: Option<Token>) -> Option<Rel>
+    ensures { MatchOption result ((rel : Rel) → token ≡ Some (rel_token rel) → ⊥) (λ rel. token ≡ Some (rel_token rel)) }
+{
+    match token? {
+        Token::DoubleEquals => Some(Rel::Equal),
+        Token::NotEquals => Some(Rel::Unequal),
+        Token::LessThan => Some(Rel::Less),
+        Token::LessOrEqual => Some(Rel::AtMost),
+        Token::GreaterThan => Some(Rel::Greater),
+        Token::GreaterOrEqual => Some(Rel::AtLeast),
+        _ => None,
+    }
+}
+
 impl Cursor<'_> {
-    pub(crate) fn name(&mut self) -> Option<Name>
-        ensures reads { Reads IsName result self.old self.new }
-        ensures shorter { OnSome result (length self.new < length self.old) }
+    pub(crate) fn name(&mut self) -> Result<Name, Fault>
+        ensures { Reads IsName result self.old self.new }
     {
-        match self.next()? {
-            Token::Named(name) => Some(name),
-            _ => None,
-        }
+        let Some(name) = name_of(self.peek()) else {
+            return Err(Fault::Syntax);
+        };
+        self.skip();
+        Ok(name)
+    }
+
+    /// A number from 0 to 2^63 - 1.
+    pub(crate) fn small(&mut self) -> Result<i64, Fault>
+        ensures { Reads IsSmall result self.old self.new }
+    {
+        let Some(word) = small_of(self.peek()) else {
+            return Err(Fault::Syntax);
+        };
+        self.skip();
+        Ok(word)
     }
 
     /// What a literal has behind its sign.
-    fn negative(&mut self) -> Option<i64>
-        ensures reads { Reads IsNegative result self.old self.new }
-        ensures shorter { OnSome result (length self.new < length self.old) }
+    fn negative(&mut self) -> Result<i64, Fault>
+        ensures { Reads IsNegative result self.old self.new }
     {
-        match self.next()? {
-            Token::Number(number) => Some(number.negated()),
-            Token::Edge => Some(i64::MIN),
-            _ => None,
+        let Some(word) = negative_of(self.peek()) else {
+            return Err(Fault::Syntax);
+        };
+        self.skip();
+        Ok(word)
+    }
+
+    pub(crate) fn lit(&mut self) -> Result<i64, Fault>
+        ensures { Reads IsLit result self.old self.new }
+    {
+        if self.takes(Symbol::Minus) {
+            self.negative()
+        } else {
+            self.small()
         }
     }
 
-    pub(crate) fn lit(&mut self) -> Option<i64>
-        ensures reads { Reads IsLit result self.old self.new }
-        ensures shorter { OnSome result (length self.new < length self.old) }
+    pub(crate) fn operand(&mut self) -> Result<Operand, Fault>
+        ensures { Reads IsOperand result self.old self.new }
     {
-        match self.next()? {
-            Token::Number(number) => Some(number.word()),
-            Token::Minus => self.negative(),
-            _ => None,
+        if let Some(name) = name_of(self.peek()) {
+            self.skip();
+            return Ok(Operand::Var(name));
         }
+        let word = self.lit()?;
+        Ok(Operand::Lit(word))
     }
 
-    pub(crate) fn operand(&mut self) -> Option<Operand>
-        ensures reads { Reads IsOperand result self.old self.new }
-        ensures shorter { OnSome result (length self.new < length self.old) }
+    pub(crate) fn op(&mut self) -> Result<Op, Fault>
+        ensures { Reads IsOp result self.old self.new }
     {
-        match self.next()? {
-            Token::Named(name) => Some(Operand::Var(name)),
-            Token::Number(number) => Some(Operand::Lit(number.word())),
-            Token::Minus => Some(Operand::Lit(self.negative()?)),
-            _ => None,
-        }
+        let Some(op) = op_of(self.peek()) else {
+            return Err(Fault::Syntax);
+        };
+        self.skip();
+        Ok(op)
     }
 
-    fn rel(&mut self) -> Option<Rel>
-        ensures reads { Reads IsRel result self.old self.new }
-        ensures shorter { OnSome result (length self.new < length self.old) }
+    fn rel(&mut self) -> Result<Rel, Fault>
+        ensures { Reads IsRel result self.old self.new }
     {
-        match self.next()? {
-            Token::DoubleEquals => Some(Rel::Equal),
-            Token::NotEquals => Some(Rel::Unequal),
-            Token::LessThan => Some(Rel::Less),
-            Token::LessOrEqual => Some(Rel::AtMost),
-            Token::GreaterThan => Some(Rel::Greater),
-            Token::GreaterOrEqual => Some(Rel::AtLeast),
-            _ => None,
-        }
+        let Some(rel) = rel_of(self.peek()) else {
+            return Err(Fault::Syntax);
+        };
+        self.skip();
+        Ok(rel)
     }
 
-    pub(crate) fn test(&mut self) -> Option<Test>
-        ensures reads { Reads IsTest result self.old self.new }
-        ensures shorter { OnSome result (length self.new < length self.old) }
+    pub(crate) fn test(&mut self) -> Result<Test, Fault>
+        ensures { Reads IsTest result self.old self.new }
     {
         let left = self.operand()?;
         let rel = self.rel()?;
         let right = self.operand()?;
-        Some(Test { left, rel, right })
+        Ok(Test { left, rel, right })
     }
 }

@@ -1,84 +1,92 @@
-ghost use Rattle.std.specs.Prelude.{◌≡◌, ◌<◌, length, OnSome};
-ghost use Rattle.std.specs.Option.{option_map};
-ghost use Rattle.vmv_tree.specs.View.{stmt_of, block_of};
-ghost use Rattle.vmv_text.specs.Parts.{Reads, Builds, IsTail, IsAssignment, IsAssertion, IsStraightStmt, AreStraightStmts};
+ghost use Rattle.std.specs.Prelude.{◌≡◌};
+ghost use Rattle.vmv_tree.specs.View.{stmt_of};
+ghost use Rattle.vmv_text.specs.declared.token.Token.TheVariants.{Named, AssertWord};
+ghost use Rattle.vmv_text.specs.Reading.{Reads, ReadsAs, Any, IsTail, assigned, IsValue, IsNamedValue, IsCall, IsBehind};
 
 use crate::cursor::Cursor;
-use crate::fault::FirstFault;
-use crate::operand::op_of;
-use crate::token::Token;
+use crate::fault::Fault;
+use crate::operand::name_of;
+use crate::symbol::Symbol;
 use std::alloc::Global;
-use vmv_tree::{Block, Name, Op, Operand, Stmt};
+use vmv_tree::{Name, Op, Operand, Stmt};
+
+/// The assignment of its first operand and what is behind it.
+#[tactic(auto, using(vmv_tree::specs::View::views))]
+fn assigned(to: Name, left: Operand, tail: Option<(Op, Operand)>) -> Stmt
+    ensures { stmt_of result ≡ assigned to left tail }
+{
+    match tail {
+        None => Stmt::Set { to, from: left },
+        Some((op, right)) => Stmt::Arith {
+            to,
+            op,
+            left,
+            right,
+        },
+    }
+}
 
 impl Cursor<'_> {
     /// What an assignment has behind its first operand.
-    fn tail(&mut self) -> Option<Option<(Op, Operand)>>
-        ensures reads { Reads IsTail result self.old self.new }
-        ensures shorter { OnSome result (length self.new < length self.old) }
+    fn tail(&mut self) -> Result<Option<(Op, Operand)>, Fault>
+        ensures { Reads IsTail result self.old self.new }
     {
-        let token = self.next()?;
-        if let Token::Semicolon = token {
-            return Some(None);
+        if self.takes(Symbol::Semicolon) {
+            return Ok(None);
         }
-        let op = op_of(token)?;
+        let op = self.op()?;
         let right = self.operand()?;
-        self.semicolon()?;
-        Some(Some((op, right)))
+        self.expect(Symbol::Semicolon)?;
+        Ok(Some((op, right)))
+    }
+
+    /// The arguments of a call, and its end.
+    fn call(&mut self, alloc: Global, to: Name, callee: Name) -> Result<Stmt, Fault>
+        ensures { ReadsAs stmt_of (IsCall to callee) Any result self.old self.new }
+    {
+        let args = self.operands(alloc)?;
+        self.expect(Symbol::Semicolon)?;
+        Ok(Stmt::Call { to, callee, args })
+    }
+
+    /// What an assignment has behind a name that stands first.
+    fn named_value(&mut self, alloc: Global, to: Name, name: Name) -> Result<Stmt, Fault>
+        ensures { ReadsAs stmt_of (IsNamedValue to name) Any result self.old self.new }
+    {
+        if self.takes(Symbol::OpenParen) {
+            return self.call(alloc, to, name);
+        }
+        let tail = self.tail()?;
+        Ok(assigned(to, Operand::Var(name), tail))
+    }
+
+    /// What an assignment has behind `=`.
+    fn value(&mut self, alloc: Global, to: Name) -> Result<Stmt, Fault>
+        ensures { ReadsAs stmt_of (IsValue to) Any result self.old self.new }
+    {
+        if let Some(name) = name_of(self.peek()) {
+            self.skip();
+            return self.named_value(alloc, to, name);
+        }
+        let word = self.lit()?;
+        let tail = self.tail()?;
+        Ok(assigned(to, Operand::Lit(word), tail))
     }
 
     /// What an assignment has behind the assigned name.
-    fn assignment(&mut self, to: Name) -> Option<Stmt>
-        ensures reads { Reads (IsAssignment to) (option_map stmt_of result) self.old self.new }
-        ensures shorter { OnSome result (length self.new < length self.old) }
+    pub(crate) fn assignment(&mut self, alloc: Global, to: Name) -> Result<Stmt, Fault>
+        ensures { ReadsAs stmt_of (IsBehind (Named to)) Any result self.old self.new }
     {
-        self.equals()?;
-        let left = self.operand()?;
-        let tail = self.tail()?;
-        match tail {
-            None => Some(Stmt::Set { to, from: left }),
-            Some((op, right)) => Some(Stmt::Arith {
-                to,
-                op,
-                left,
-                right,
-            }),
-        }
+        self.expect(Symbol::Equals)?;
+        self.value(alloc, to)
     }
 
     /// What an assert has behind its word.
-    fn assertion(&mut self) -> Option<Stmt>
-        ensures reads { Reads IsAssertion (option_map stmt_of result) self.old self.new }
-        ensures shorter { OnSome result (length self.new < length self.old) }
+    pub(crate) fn assertion(&mut self) -> Result<Stmt, Fault>
+        ensures { ReadsAs stmt_of (IsBehind AssertWord) Any result self.old self.new }
     {
         let test = self.test()?;
-        self.semicolon()?;
-        Some(Stmt::Assert { test })
-    }
-
-    fn statement(&mut self) -> Option<Stmt>
-        ensures reads { Reads IsStraightStmt (option_map stmt_of result) self.old self.new }
-        ensures shorter { OnSome result (length self.new < length self.old) }
-    {
-        match self.next()? {
-            Token::Named(to) => self.assignment(to),
-            Token::AssertWord => self.assertion(),
-            _ => None,
-        }
-    }
-
-    /// Statements up to the word `return`, which is taken too.
-    pub(crate) fn statements(&mut self, alloc: Global) -> Result<Block, FirstFault>
-        ensures { Builds block_of AreStraightStmts result self.old self.new }
-    {
-        let mut block = Block::new(alloc);
-        loop {
-            if self.has_return() {
-                return Ok(block);
-            }
-            let Some(stmt) = self.statement() else {
-                return Err(FirstFault::NotBuilt);
-            };
-            block.push(stmt)?;
-        }
+        self.expect(Symbol::Semicolon)?;
+        Ok(Stmt::Assert { test })
     }
 }

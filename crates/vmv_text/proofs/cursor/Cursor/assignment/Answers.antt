@@ -1,33 +1,18 @@
-use Rattle.vmv_text.specs.declared.token.Token.TheVariants.{Equals}
-use Rattle.vmv_text.specs.Grammar.{IsOperand}
-use Rattle.vmv_text.specs.Parts.{IsToken, IsTail}
-use Rattle.vmv_text.proofs.OneBlock.{operand_once}
-use Rattle.vmv_text.proofs.Chains.{Then, none_first, none_second, token_once, assignment-chain, made-copy, made-compute}
+use Rattle.std.proofs.lemmas.Result.{err_from_is_err_and}
+use Rattle.vmv_tree.specs.View.{stmt_of}
+use Rattle.vmv_text.specs.declared.token.Token.TheVariants.{Named, Equals}
+use Rattle.vmv_text.specs.Reading.{Any, IsToken, IsValue, IsBehind}
+use Rattle.vmv_text.proofs.Steps.{carried_as, step, failed}
+use Rattle.vmv_text.proofs.Assignments.{assignment-parts, open_value}
 use Rattle.vmv_text.proofs.cursor.Cursor.assignment.Goals as goal
 
-pub returns-in_err-equals-clause-reads : goal.returns-in_err-equals-clause-reads
-returns-in_err-equals-clause-reads c =
-    rw c.from_residual.ensures
-    (assignment-chain c.args.to _ (none_first (IsToken Equals) (Then IsOperand IsTail) _ c.in_err-equals.ensures.reads))
+pub returns-in_err-expect : goal.returns-in_err-expect
+returns-in_err-expect c =
+    let p = err_from_is_err_and c.from_residual.result c.from_residual.ensures.1 in
+    rw (p.1, p.2)
+    (failed _ (IsToken Equals) _ Any Any _ (λ (x : Unit {0}). x) stmt_of c.in_err-expect.field-0.0 _ _ c.expect.new.self (assignment-parts c.args.to _) c.in_err-expect.ensures.reads (λ y q rest ok k. tt) (open_value c.args.to))
 
-pub returns-in_err-left-clause-reads : goal.returns-in_err-left-clause-reads
-returns-in_err-left-clause-reads c =
-    rw c.from_residual-in_err-left.ensures
-    (assignment-chain c.args.to _
-    (none_second (IsToken Equals) (Then IsOperand IsTail) (token_once Equals) tt _ _ c.in_ok-equals.ensures.reads
-    (none_first IsOperand IsTail _ c.in_err-left.ensures.reads)))
-
-pub returns-in_err-tail-clause-reads : goal.returns-in_err-tail-clause-reads
-returns-in_err-tail-clause-reads c =
-    rw c.from_residual-in_err-tail.ensures
-    (assignment-chain c.args.to _
-    (none_second (IsToken Equals) (Then IsOperand IsTail) (token_once Equals) tt _ _ c.in_ok-equals.ensures.reads
-    (none_second IsOperand IsTail operand_once c.in_ok-left.left _ _ c.in_ok-left.ensures.reads c.in_err-tail.ensures.reads)))
-
-pub returns-in-None-clause-reads : goal.returns-in-None-clause-reads
-returns-in-None-clause-reads c =
-    made-copy c.args.to c.in_ok-left.left c.in_ok-tail.tail _ _ _ _ c.in-None.is c.in_ok-equals.ensures.reads c.in_ok-left.ensures.reads c.in_ok-tail.ensures.reads
-
-pub returns-in-Some-clause-reads : goal.returns-in-Some-clause-reads
-returns-in-Some-clause-reads c =
-    made-compute c.args.to c.in_ok-left.left c.in-Some.right c.in-Some.op c.in_ok-tail.tail _ _ _ _ c.in-Some.is c.in_ok-equals.ensures.reads c.in_ok-left.ensures.reads c.in_ok-tail.ensures.reads
+pub returns : goal.returns
+returns c =
+    carried_as stmt_of (IsBehind (Named c.args.to)) (IsValue c.args.to) Any c.value.result _ _ c.value.new.self
+    (step _ _ _ Any Any _ tt _ _ _ (assignment-parts c.args.to _) c.in_ok-expect.ensures.reads (λ y q rest ok k. tt)) c.value.ensures

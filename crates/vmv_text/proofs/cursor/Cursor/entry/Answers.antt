@@ -1,20 +1,71 @@
+use Rattle.std.proofs.Common.{List}
 use Rattle.std.proofs.lemmas.Result.{err_from_is_err_and}
-use Rattle.vmv_text.proofs.Bodies.{entry_no_head, entry_no_params, entry_no_body, entry_made}
+use Rattle.vmv_tree.specs.declared.name.Name.{Name}
+use Rattle.vmv_tree.specs.declared.tree.Param.{Param}
+use Rattle.vmv_tree.specs.View.{body_of, item_of}
+use Rattle.vmv_text.specs.declared.token.Token.TheVariants.{OpenParen}
+use Rattle.vmv_text.specs.Grammar.{IsName, IsParam, IsBody}
+use Rattle.vmv_text.specs.Reading.{Any, IsToken, Listed}
+use Rattle.vmv_text.proofs.Steps.{step, failed, failed_last, done, open_then, open_token}
+use Rattle.vmv_text.proofs.CommaLists.{open_listed}
+use Rattle.vmv_text.proofs.Items.{entry-parts, open_body}
 use Rattle.vmv_text.proofs.cursor.Cursor.entry.Goals as goal
 
-pub returns-in_default : goal.returns-in_default
-returns-in_default c = entry_no_head _ c.in_default.ensures.reads
+pub returns-in_err-name : goal.returns-in_err-name
+returns-in_err-name c =
+    let p = err_from_is_err_and c.from_residual.result c.from_residual.ensures.1 in
+    rw (p.1, p.2)
+    (failed _ IsName _ Any Any _ (λ (x : Name). x) item_of c.in_err-name.field-0.0 _ _ c.name.new.self
+    (entry-parts _)
+    c.in_err-name.ensures (λ y q rest ok k. tt)
+    (open_then _ _ (open_token OpenParen) (open_then _ _ (open_listed IsParam) open_body)))
+
+pub returns-in_err-expect : goal.returns-in_err-expect
+returns-in_err-expect c =
+    let p = err_from_is_err_and c.from_residual-in_err-expect.result c.from_residual-in_err-expect.ensures.1 in
+    rw (p.1, p.2)
+    (failed _ (IsToken OpenParen) _ Any Any _ (λ (x : Unit {0}). x) item_of c.in_err-expect.field-0.0 _ _ c.expect.new.self
+    (step _ _ _ Any Any _ c.in_ok-name.name _ _ _
+    (entry-parts _)
+    c.in_ok-name.ensures (λ y q rest ok k. tt))
+    c.in_err-expect.ensures.reads (λ y q rest ok k. tt)
+    (open_then _ _ (open_listed IsParam) open_body))
 
 pub returns-in_err-params : goal.returns-in_err-params
 returns-in_err-params c =
-    let p = err_from_is_err_and c.from_residual.result c.from_residual.ensures.1 in
-    rw (p.1, p.2) (entry_no_params c.in_err-params.field-0.0 c.in-Some.name _ _ _ _ c.in-Some.ensures.reads c.in_err-params.ensures)
+    let p = err_from_is_err_and c.from_residual-in_err-params.result c.from_residual-in_err-params.ensures.1 in
+    rw (p.1, p.2)
+    (failed _ (Listed IsParam) _ Any Any _ (λ (x : List Param). x) item_of c.in_err-params.field-0.0 _ _ c.params.new.self
+    (step _ _ _ Any Any _ tt _ _ _
+    (step _ _ _ Any Any _ c.in_ok-name.name _ _ _
+    (entry-parts _)
+    c.in_ok-name.ensures (λ y q rest ok k. tt))
+    c.in_ok-expect.ensures.reads (λ y q rest ok k. tt))
+    c.in_err-params.ensures (λ y q rest ok k. tt)
+    open_body)
 
 pub returns-in_err-body : goal.returns-in_err-body
 returns-in_err-body c =
     let p = err_from_is_err_and c.from_residual-in_err-body.result c.from_residual-in_err-body.ensures.1 in
-    rw (p.1, p.2) (entry_no_body c.in_err-body.field-0.0 c.in-Some.name c.in_ok-params.params _ _ _ _ _ c.in-Some.ensures.reads c.in_ok-params.ensures c.in_err-body.ensures)
+    rw (p.1, p.2)
+    (failed_last _ IsBody Any _ body_of item_of c.in_err-body.field-0.0 _ _ c.body.new.self
+    (step _ _ _ Any Any _ c.in_ok-params.params _ _ _
+    (step _ _ _ Any Any _ tt _ _ _
+    (step _ _ _ Any Any _ c.in_ok-name.name _ _ _
+    (entry-parts _)
+    c.in_ok-name.ensures (λ y q rest ok k. tt))
+    c.in_ok-expect.ensures.reads (λ y q rest ok k. tt))
+    c.in_ok-params.ensures (λ y q rest ok k. tt))
+    c.in_err-body.ensures)
 
 pub returns : goal.returns
 returns c =
-    entry_made c.in-Some.name c.in_ok-params.params c.in_ok-body.body _ _ _ _ c.in-Some.ensures.reads c.in_ok-params.ensures c.in_ok-body.ensures
+    done _ _ Any _ (body_of c.in_ok-body.body) _ _ _
+    (step _ _ _ Any Any _ c.in_ok-params.params _ _ _
+    (step _ _ _ Any Any _ tt _ _ _
+    (step _ _ _ Any Any _ c.in_ok-name.name _ _ _
+    (entry-parts _)
+    c.in_ok-name.ensures (λ y q rest ok k. tt))
+    c.in_ok-expect.ensures.reads (λ y q rest ok k. tt))
+    c.in_ok-params.ensures (λ y q rest ok k. tt))
+    c.in_ok-body.ensures

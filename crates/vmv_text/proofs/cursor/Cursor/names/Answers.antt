@@ -1,13 +1,16 @@
+use Rattle.std.proofs.Common.{List}
+use Rattle.vmv_tree.specs.declared.name.Name.{Name}
+use Rattle.vmv_text.specs.declared.token.Token.TheVariants.{CloseParen}
 use Rattle.vmv_text.specs.Grammar.{IsName}
-use Rattle.vmv_text.proofs.OneBlock.{name_once}
-use Rattle.vmv_text.proofs.Commas.{ahead_more, ahead_none}
+use Rattle.vmv_text.specs.Reading.{Any, CommasTo, Listed}
+use Rattle.vmv_text.proofs.OneBlock.{name_close}
+use Rattle.vmv_text.proofs.Steps.{carried}
+use Rattle.vmv_text.proofs.CommaLists.{listed-none, listed-some}
 use Rattle.vmv_text.proofs.cursor.Cursor.names.Goals as goal
 
-pub returns-in_default : goal.returns-in_default
-returns-in_default c =
-    ahead_none IsName _ _ _ c.loop-name.invariant c.in_default.ensures.reads
+pub returns-then-takes : goal.returns-then-takes
+returns-then-takes c = rw c.new.ensures (listed-none IsName name_close _ _ c.if-takes.ensures.tests)
 
-pub loop-name-preserved : goal.loop-name-preserved
-loop-name-preserved c =
-    rw c.in_ok-push.ensures.ok
-    (ahead_more IsName name_once _ _ c.in-Some.name _ _ _ c.loop-name.invariant c.in-Some.ensures.reads c.if-not-has_comma.ensures.tests)
+pub returns : goal.returns
+returns c =
+    carried (Listed IsName) (CommasTo CloseParen IsName) Any (λ (x : List Name). x) c.names_to.result _ _ c.names_to.new.self (listed-some IsName _ _ c.if-takes.ensures.tests) c.names_to.ensures

@@ -1,12 +1,16 @@
-use Rattle.std.proofs.lemmas.Result.{err_from_is_err_and}
-use Rattle.vmv_text.proofs.Entries.{params_no_list, params_no_end}
+use Rattle.std.proofs.Common.{List}
+use Rattle.vmv_tree.specs.declared.tree.Param.{Param}
+use Rattle.vmv_text.specs.declared.token.Token.TheVariants.{CloseParen}
+use Rattle.vmv_text.specs.Grammar.{IsParam}
+use Rattle.vmv_text.specs.Reading.{Any, CommasTo, Listed}
+use Rattle.vmv_text.proofs.OneBlock.{param_close}
+use Rattle.vmv_text.proofs.Steps.{carried}
+use Rattle.vmv_text.proofs.CommaLists.{listed-none, listed-some}
 use Rattle.vmv_text.proofs.cursor.Cursor.params.Goals as goal
 
-pub returns-in_err-params : goal.returns-in_err-params
-returns-in_err-params c =
-    let p = err_from_is_err_and c.from_residual.result c.from_residual.ensures.1 in
-    rw (p.1, p.2) (params_no_list c.in_err-params.field-0.0 _ _ _ c.if-has_close.ensures.tests c.in_err-params.ensures)
+pub returns-then-takes : goal.returns-then-takes
+returns-then-takes c = rw c.new.ensures (listed-none IsParam param_close _ _ c.if-takes.ensures.tests)
 
-pub returns-in_default : goal.returns-in_default
-returns-in_default c =
-    params_no_end c.in_ok-params.params _ _ _ c.if-has_close.ensures.tests c.in_ok-params.ensures c.in_default.ensures.reads
+pub returns : goal.returns
+returns c =
+    carried (Listed IsParam) (CommasTo CloseParen IsParam) Any (λ (x : List Param). x) c.some_params.result _ _ c.some_params.new.self (listed-some IsParam _ _ c.if-takes.ensures.tests) c.some_params.ensures

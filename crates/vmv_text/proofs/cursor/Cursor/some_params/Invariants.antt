@@ -1,11 +1,11 @@
 use Rattle.std.proofs.Common.{length}
-use Rattle.vmv_text.specs.Tokens.{tokens}
+use Rattle.vmv_text.specs.declared.token.Token.TheVariants.{CloseParen}
 use Rattle.vmv_text.specs.Grammar.{IsParam}
-use Rattle.vmv_text.proofs.Commas.{Ahead}
+use Rattle.vmv_text.proofs.CommaLists.{Reading}
 use Rattle.vmv_text.proofs.cursor.Cursor.some_params.Given as goal
 
-abbrev pub invariant-loop-param : goal.invariant-loop-param
-invariant-loop-param l = Ahead IsParam (tokens l.initial.self) l.params (tokens l.self)
+abbrev pub invariant-loop-params : goal.invariant-loop-params
+invariant-loop-params l = Reading CloseParen IsParam l.initial.self l.params l.self
 
-abbrev pub decreases-loop-param : goal.decreases-loop-param
-decreases-loop-param l = length l.self
+abbrev pub decreases-loop-params : goal.decreases-loop-params
+decreases-loop-params l = length l.self

@@ -1,12 +1,16 @@
-use Rattle.std.proofs.lemmas.Result.{err_from_is_err_and}
-use Rattle.vmv_text.proofs.Entries.{vars_no_names, vars_no_end}
+use Rattle.std.proofs.Common.{List}
+use Rattle.vmv_tree.specs.declared.name.Name.{Name}
+use Rattle.vmv_text.specs.declared.token.Token.TheVariants.{Semicolon}
+use Rattle.vmv_text.specs.Grammar.{IsName, IsVars}
+use Rattle.vmv_text.specs.Reading.{NoVar, CommasTo}
+use Rattle.vmv_text.proofs.Steps.{carried}
+use Rattle.vmv_text.proofs.Items.{vars-declared, vars-absent, unvaried}
 use Rattle.vmv_text.proofs.cursor.Cursor.vars.Goals as goal
 
-pub returns-in_err-names : goal.returns-in_err-names
-returns-in_err-names c =
-    let p = err_from_is_err_and c.from_residual.result c.from_residual.ensures.1 in
-    rw (p.1, p.2) (vars_no_names c.in_err-names.field-0.0 _ _ _ _ c.if-not-has_var.ensures.tests c.in_err-names.ensures)
+pub returns-then-takes : goal.returns-then-takes
+returns-then-takes c =
+    carried IsVars (CommasTo Semicolon IsName) NoVar (λ (x : List Name). x) c.names_to.result _ _ c.names_to.new.self (vars-declared _ _ c.if-takes.ensures.tests)
+    (unvaried c.names_to.result _ _ c.names_to.ensures)
 
-pub returns-in_default : goal.returns-in_default
-returns-in_default c =
-    vars_no_end c.in_ok-names.names _ _ _ c.semicolon.new.self c.if-not-has_var.ensures.tests c.in_ok-names.ensures c.in_default.ensures.reads
+pub returns : goal.returns
+returns c = rw c.new.ensures (vars-absent _ _ c.if-takes.ensures.tests)
