@@ -1,0 +1,5 @@
+pub mod Names
+pub mod Callees
+pub mod Measures
+pub mod Numbers
+pub mod Walks
