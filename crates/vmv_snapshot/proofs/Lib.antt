@@ -1,0 +1,15 @@
+pub mod SlotLists
+pub mod NameEq
+pub mod Lookups
+pub mod Zips
+pub mod Walk
+pub mod Named
+pub mod Known
+pub mod Distinct
+pub mod Ready
+pub mod Build
+pub mod Marks
+pub mod Links
+pub mod Kept
+pub mod RangeLists
+pub mod Helpers

@@ -1,0 +1,11 @@
+pub mod Code
+pub mod View
+pub mod Procs
+pub mod Resolves
+pub mod Resolvable
+pub mod Tables
+pub mod Reaches
+pub mod Rows
+pub mod Resolution
+pub mod Faults
+pub mod Boxes
