@@ -1,0 +1,4 @@
+pub mod FitsLemmas
+pub mod WellLemmas
+pub mod ChainLemmas
+pub mod OnceLemmas

@@ -1,0 +1,38 @@
+ghost use Rattle.std.specs.Prelude.{◌≡◌, ℕ, List};
+ghost use Rattle.vmv_keeper.specs.Formed.{IsDone};
+ghost use Rattle.vmv_keeper.specs.Tables.{Tables};
+ghost use Rattle.vmv_keeper.specs.declared.act.Act.{Act};
+ghost use Rattle.vmv_keeper.specs.declared.reply.Reply.{Reply};
+ghost use Rattle.vmv_desk_rules.specs.Causes.{Meaning, says};
+ghost use Rattle.vmv_desk_rules.specs.Step.{Step};
+ghost use Rattle.vmv_desk_rules.specs.Well.{Well};
+ghost use Rattle.vmv_desk_rules.specs.Chain.{KeepsChains};
+ghost use Rattle.vmv_desk_rules.specs.Keeping.{ReadsUtf8, IsKeptAs};
+ghost use Rattle.vmv_desk_rules.specs.Runs.{Runs};
+
+use vmv_keeper::{Command, Judge};
+
+/// A law, with nothing to do: a step keeps rows well.
+pub fn steps_keep_rows_well()
+    ensures { (J : Meaning) (tables new : Tables) (command : Command) (reply : Reply) → ReadsUtf8 J → Well J tables → Step J tables command new reply → Well J new }
+{}
+
+/// A law, with nothing to do: in well rows each project's base keeps what its latest root does.
+pub fn well_rows_keep_chains<J: Judge>(_judge: &J)
+    ensures { (tables : Tables) → Well (says (J.inspected _judge.now) (J.compared _judge.now)) tables → KeepsChains (J.keeps _judge.now) tables }
+{}
+
+/// A law, with nothing to do: an id acts once. After an act was done, the same act under the same caller and id
+/// has that reply and changes nothing, whatever came between.
+pub fn an_id_acts_once()
+    ensures { (J : Meaning) (before behind now then : Tables) (caller id : List ℕ) (act : Act) (reply again : Reply) (commands : List Command) (replies : List Reply)
+        → Step J before (Command.Change caller id act) behind reply → IsDone act reply → Runs J behind commands now replies
+        → Step J now (Command.Change caller id act) then again → (again ≡ reply) × (then ≡ now) }
+{}
+
+/// A law, with nothing to do: an act that was done is kept with its reply, whatever came since.
+pub fn done_acts_are_kept()
+    ensures { (J : Meaning) (before behind now : Tables) (caller id : List ℕ) (act : Act) (reply : Reply) (commands : List Command) (replies : List Reply)
+        → Step J before (Command.Change caller id act) behind reply → IsDone act reply → Runs J behind commands now replies
+        → IsKeptAs now caller id act reply }
+{}

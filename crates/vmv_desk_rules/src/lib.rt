@@ -1,0 +1,8 @@
+//! What the desk answers, by definitions over the rows of a store, and the laws of these answers.
+#![tactic(auto)]
+
+mod laws;
+mod outcome;
+
+pub use laws::{an_id_acts_once, done_acts_are_kept, steps_keep_rows_well, well_rows_keep_chains};
+pub use outcome::Outcome;
