@@ -1,0 +1,18 @@
+//! The desk: who may do what with a project, over any store of rows and any judge of texts.
+#![tactic(auto)]
+
+mod asking;
+mod changing;
+mod committing;
+mod desk;
+mod judging;
+mod outcomes;
+mod places;
+mod queue;
+mod queues;
+mod row_causes;
+
+pub use desk::{Desk, StartFault};
+
+#[cfg(test)]
+mod tests;
