@@ -1,0 +1,4 @@
+pub mod Seen
+pub mod Others
+pub mod Versions
+pub mod Shown
