@@ -1,0 +1,4 @@
+pub mod Pushing
+pub mod Lexing
+pub mod TreeTokens
+pub mod Derived
