@@ -5,11 +5,15 @@
 #![tactic(auto)]
 
 mod defect;
+mod ends;
 mod name;
+mod site;
 mod tree;
 
 pub use defect::Defect;
+pub use ends::{EndList, Ends, NameEnds};
 pub use name::Name;
+pub use site::NamedSite;
 pub use tree::{
     Args, Block, Body, Item, Items, Names, Op, Operand, Param, Params, Program, Rel, Stmt, Test,
 };
