@@ -3,7 +3,7 @@ use Rattle.std.proofs.Common.{◌≡◌, ◌≢◌, ⊎_elim, ℕ, ◌+◌, ◌*
 use Rattle.std.proofs.lemmas.List.{length-replicate}
 use Rattle.std.proofs.lemmas.Bool.{cases_eq, cases_lt}
 use Rattle.std.proofs.lemmas.Int.{ints}
-use Rattle.vmv_zone.specs.Bounds.{IsInReach, AreInReach, bound_at, inner_bound, IsTable, top_bound, dropped_bound, moved, IsTableBy}
+use Rattle.vmv_zone.specs.Bounds.{IsInReach, AreInReach, bound_at, inner_bound, IsTable, top_bound, dropped_bound, freed_bound, moved, IsTableBy}
 use Rattle.vmv_zone.proofs.Places.{reach_set}
 use Rattle.vmv_zone.proofs.Zeros.{zeros_reach, get_or-zeros}
 
@@ -68,6 +68,12 @@ top_in_reach i j = record { low = grind (arith, ints); high = grind (arith, ints
 
 pub dropped_in_reach : (bs : List ℤ) (to last : ℕ) → AreInReach bs → (i j : ℕ) → IsInReach (dropped_bound bs to last i j)
 dropped_in_reach bs to last reach i j = reach (18 * moved to last i + moved to last j)
+
+pub freed_in_reach : (bs : List ℤ) (x : ℕ) → AreInReach bs → (i j : ℕ) → IsInReach (freed_bound bs x i j)
+freed_in_reach bs x reach i j =
+    let top = top_in_reach i j in
+    let same = reach (18 * i + j) in
+    record { low = grind (arith, ints); high = grind (arith, ints) }
 
 -- the bounds at the places below this one have the property of their place, and the others are 0
 pub record FilledBy (Is : ℕ → ℕ → ℤ → Type 0) (vars : ℕ) (bs : List ℤ) (place : ℕ) : Type 0 where

@@ -1,5 +1,5 @@
 -- Bounds on the differences of things, one place for each pair.
-use Rattle.std.specs.Prelude.{◌≡◌, ◌≢◌, ◌⊎◌, ◌==◌, ◌&&◌, if◌then◌else◌, Bool, false, IsTrue, ℕ, ◌+◌, ◌*◌, ◌-◌, ◌^◌, ◌<◌, ◌≤◌, ℤ, pos, negsuc, ◌+ℤ◌, ◌≤ℤ◌, ◌<ℤ◌, List, [], ◌∷◌, get_or, length, nat_le}
+use Rattle.std.specs.Prelude.{◌≡◌, ◌≢◌, ◌⊎◌, ◌==◌, ◌&&◌, ◌||◌, if◌then◌else◌, Bool, false, IsTrue, ℕ, ◌+◌, ◌*◌, ◌-◌, ◌^◌, ◌<◌, ◌≤◌, ℤ, pos, negsuc, ◌+ℤ◌, ◌≤ℤ◌, ◌<ℤ◌, List, [], ◌∷◌, get_or, length, nat_le}
 use Rattle.std.specs.Int.{int_min}
 
 -- the bound on i - j
@@ -102,6 +102,10 @@ through_bound bs i j b p q = int_min (bound_at bs p q) ((bound_at bs p i +ℤ b)
 -- the bound on i - j with the last variable in place of the variable `to`
 abbrev pub dropped_bound : List ℤ → ℕ → ℕ → ℕ → ℕ → ℤ
 dropped_bound bs to last i j = bound_at bs (moved to last i) (moved to last j)
+
+-- the bound on i - j, but top's where one of them is x
+abbrev pub freed_bound : List ℤ → ℕ → ℕ → ℕ → ℤ
+freed_bound bs x i j = if i == x || j == x then top_bound i j else bound_at bs i j
 
 -- the size of b is at most 2^126, as that of a product of words is
 pub record IsWide (b : ℤ) : Type 0 where

@@ -26,14 +26,6 @@ mark_of z i = get_or z.marks i false
 abbrev pub IsMarked : Zone → ℕ → Type 0
 IsMarked z i = IsTrue (mark_of z i)
 
--- i is one of the state's things: 0 or a variable
-abbrev pub IsThing : Zone → ℕ → Type 0
-IsThing z i = i ≤ z.vars
-
--- i is one of the state's variables
-abbrev pub IsVariable : Zone → ℕ → Type 0
-IsVariable z i = (1 ≤ i) × (i ≤ z.vars)
-
 -- the values p, 0 at thing 0, are words that meet each bound and each mark
 pub record HasPoint (z : Zone) (p : ℕ → ℤ) : Type 0 where
   pub not_bottom : IsFalse z.bottom
@@ -98,12 +90,14 @@ pub record AddsMark (old new : Zone) (i : ℕ) : Type 0 where
   pub marked : IsMarked new i
   pub others : (p : ℕ) → p ≢ i → mark_of new p ≡ mark_of old p
 
--- two states that tell the same
-pub record IsAlike (a b : Zone) : Type 0 where
-  pub vars : a.vars ≡ b.vars
-  pub bottom : a.bottom ≡ b.bottom
-  pub bounds : (i j : ℕ) → i ≤ b.vars → j ≤ b.vars → bound_of a i j ≡ bound_of b i j
-  pub marks : (i : ℕ) → 1 ≤ i → i ≤ b.vars → mark_of a i ≡ mark_of b i
+-- new is old with top's bounds on the variable x, and no mark on it
+pub record IsFreed (old new : Zone) (x : ℕ) : Type 0 where
+  pub vars : new.vars ≡ old.vars
+  pub bottom : new.bottom ≡ old.bottom
+  pub freed : (i j : ℕ) → i ≤ old.vars → j ≤ old.vars → i ≡ x ⊎ j ≡ x → bound_of new i j ≡ top_bound i j
+  pub others : (i j : ℕ) → i ≤ old.vars → j ≤ old.vars → i ≢ x → j ≢ x → bound_of new i j ≡ bound_of old i j
+  pub unmarked : ¬ IsMarked new x
+  pub marks : (i : ℕ) → i ≢ x → mark_of new i ≡ mark_of old i
 
 -- j is the least state above both a and b
 pub record IsJoin (a b j : Zone) : Type 0 where

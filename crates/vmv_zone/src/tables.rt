@@ -1,5 +1,5 @@
 ghost use Rattle.std.specs.Prelude.{◌≡◌, ◌<◌, ◌≤◌, ◌+◌, ◌-◌, ℕ, pos, ◌+ℤ◌, ◌≤ℤ◌};
-ghost use Rattle.vmv_zone.specs.Bounds.{IsInReach, AreInReach, AreUnderTop, IsClosed, IsTable, IsTableBy, bound_at, top_bound, inner_bound, extended_bound, dropped_bound, through_bound, moved};
+ghost use Rattle.vmv_zone.specs.Bounds.{IsInReach, AreInReach, AreUnderTop, IsClosed, IsTable, IsTableBy, bound_at, top_bound, inner_bound, extended_bound, dropped_bound, freed_bound, through_bound, moved};
 
 use crate::paths::CELLS;
 
@@ -163,6 +163,35 @@ fn dropped_at(bounds: &[i128; CELLS], to: usize, last: usize, i: usize, j: usize
         return 0;
     }
     bounds[18 * moved_to(to, last, i) + moved_to(to, last, j)]
+}
+
+/// The bounds with top's on the variable `x`.
+pub(crate) fn freed_bounds(bounds: &[i128; CELLS], vars: usize, x: usize) -> [i128; CELLS]
+    requires few { vars ≤ 17 }
+    requires reach { AreInReach bounds.now }
+    ensures { IsTable (freed_bound bounds.now x) vars result }
+{
+    let mut freed = [0; CELLS];
+    for place in 0..18 * (vars + 1) {
+        freed[place] = freed_at(bounds, vars, x, place / 18, place % 18);
+    }
+    freed
+}
+
+/// The bound on `i - j`, but top's where one of them is `x`; 0 where `j` is past the last thing.
+fn freed_at(bounds: &[i128; CELLS], vars: usize, x: usize, i: usize, j: usize) -> i128
+    requires few { vars ≤ 17 }
+    requires i { i ≤ vars }
+    requires j { j ≤ 17 }
+    ensures { result ≡ inner_bound vars j (freed_bound bounds.now x i j) }
+{
+    if j > vars {
+        return 0;
+    }
+    if i == x || j == x {
+        return top_of(i, j);
+    }
+    bounds[18 * i + j]
 }
 
 /// `last` in place of `to`.

@@ -553,6 +553,7 @@ fn joins_and_ranges(rt: HostRuntime) {
     assert!(rt; Zone::top(0).range(Lit(5)) == Cond::of(5, 5, false));
     assert!(rt; Zone::bottom(0).range(Lit(5)).is_empty());
     assert!(rt; low.range(X) == Cond::of(MIN, MAX, true));
+    assert!(rt; same(Some(low.with_bound(1, 0, 5).free(1)), state(1, &[], &[])));
 }
 
 #[test]

@@ -2,7 +2,7 @@ ghost use Rattle.std.specs.Prelude.{◌≡◌, ◌≤◌, ℕ, IsTrue, length};
 ghost use Rattle.vmv_zone.specs.Bounds.{AreInReach, AreUnderTop, AreZeroOutside, AreOnVariables, AreBlank};
 
 use crate::paths::CELLS;
-use crate::tables::top_bounds;
+use crate::tables::{freed_bounds, top_bounds};
 
 /// An abstract state: bounds on the differences of up to 16 variables and 0, with a mark on each variable that is
 /// known not to be 0; or Bottom, which has no point.
@@ -27,7 +27,7 @@ pub struct Zone {
 impl Zone {
     ghost use Rattle.std.specs.Prelude.{◌≡◌, ◌<◌, ℤ, IsFalse, ◌↔◌, negsuc, ◌^◌, ◌-◌, ◌≤ℤ◌};
     ghost use Rattle.vmv_zone.specs.Bounds.{top_bound};
-    ghost use Rattle.vmv_zone.specs.Zone.{vars_of, IsBottom, NotBottom, bound_of, mark_of, IsTop, ChangesBound, AddsMark};
+    ghost use Rattle.vmv_zone.specs.Zone.{vars_of, IsBottom, NotBottom, bound_of, mark_of, IsTop, ChangesBound, AddsMark, IsFreed};
 
     /// The state of all words: top's bounds and no marks. Takes at most 16 variables.
     pub fn top(vars: u8) -> Zone
@@ -128,6 +128,24 @@ impl Zone {
         let bounds = self.bounds;
         let mut marks = self.marks;
         marks[i as usize] = true;
+        Zone {
+            vars: self.vars,
+            bottom: self.bottom,
+            bounds,
+            marks,
+        }
+    }
+
+    /// The same state with top's bounds on the variable `i`, and no mark on it. It isn't normed.
+    pub fn free(self, i: u8) -> Zone
+        requires not_bottom { NotBottom self }
+        requires variable { 1 ≤ i }
+        requires i { i ≤ vars_of self }
+        ensures { IsFreed self result i }
+    {
+        let bounds = freed_bounds(&self.bounds, self.vars as usize, i as usize);
+        let mut marks = self.marks;
+        marks[i as usize] = false;
         Zone {
             vars: self.vars,
             bottom: self.bottom,
