@@ -6,7 +6,7 @@ use Rattle.vmv_tree.specs.declared.name.Name.{Name}
 use Rattle.vmv_tree.specs.Tree.{Body, Item, outside, helper, entry}
 use Rattle.vmv_tree.specs.Run.{Answers, End, next, fail, Outcome, RunsBody, RunsItem, RunsAbove, start}
 use Rattle.vmv_tree.specs.Limits.{brought, block_asks, body_steps, unrolled_calls, unrolled_steps}
-use Rattle.vmv_run.specs.Callees.{BlockCallees, Declares, IsResolved}
+use Rattle.vmv_run.proofs.Callees.{BlockCallees, Declares, IsResolved}
 use Rattle.vmv_run.specs.Steps.{return_step, body_run_steps, item_run_steps, steps_above, of_part}
 use Rattle.vmv_run.proofs.RunBound.{RunsAll-within}
 use Rattle.vmv_run.proofs.RunSteps.{block_at_most}

@@ -1,3 +1,4 @@
+pub mod Callees
 pub mod RunFixed
 pub mod RunExists
 pub mod RunBound
@@ -6,3 +7,11 @@ pub mod Counted
 pub mod Resolved
 pub mod OneRun
 pub mod Asked
+pub mod Frames
+pub mod Sources
+pub mod Rules
+pub mod Places
+pub mod Sizes
+pub mod Procedures
+pub mod OneReplay
+pub mod Findings

@@ -12,7 +12,7 @@ use Rattle.vmv_tree.specs.Run.{Answers, Outcome, RunsBody, RunsItem, RunsAbove, 
 use Rattle.vmv_tree.specs.Limits.{unrolled_calls, unrolled_steps}
 use Rattle.vmv_tree.specs.Mentions.{item_mentions}
 use Rattle.vmv_tree.specs.Valid.{Valid}
-use Rattle.vmv_run.specs.Callees.{BlockCallees, Declares, IsResolved}
+use Rattle.vmv_run.proofs.Callees.{BlockCallees, Declares, IsResolved}
 use Rattle.vmv_run.specs.Constant.{OneRun}
 use Rattle.vmv_run.specs.Steps.{item_run_steps, steps_above, of_part, steps_of_run}
 use Rattle.vmv_run.proofs.RunFixed.{Alike, RunsAbove-fixed}
@@ -132,7 +132,7 @@ one_of program above name params body words c fits e =
     }
 
 -- a list around one of its items
-around : {X : Type 0} (xs : List X) (k : ℕ) (x : X) → k < length xs → get_or xs k x ≡ x → xs ≡ take k xs ++ x ∷ drop (k + 1) xs
+pub around : {X : Type 0} (xs : List X) (k : ℕ) (x : X) → k < length xs → get_or xs k x ≡ x → xs ≡ take k xs ++ x ∷ drop (k + 1) xs
 around xs k x h e =
     let tail : drop k xs ≡ x ∷ drop (k + 1) xs = rw (add-one, drop-cons xs k x, e) refl in
     sym (take-append-drop k xs) ∙ ap (λ t. take k xs ++ t) tail

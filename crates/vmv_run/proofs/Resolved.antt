@@ -13,7 +13,7 @@ use Rattle.vmv_tree.specs.Limits.{indexes_of, block_indexes}
 use Rattle.vmv_tree.specs.declared.defect.Defect.{Defect}
 use Rattle.vmv_tree.specs.declared.defect.Defect.TheVariants.{UnknownName, Repeated}
 use Rattle.vmv_tree.specs.Valid.{Scope, Finds, Takes, InStmt, InBlock, InBody, InItem, InItems, Valid}
-use Rattle.vmv_run.specs.Callees.{Callees, BlockCallees, ItemCallees, Declares, IsResolved}
+use Rattle.vmv_run.proofs.Callees.{Callees, BlockCallees, ItemCallees, Declares, IsResolved}
 
 -- the items of a list put onto those above, so that the last one is the nearest
 abbrev pub onto : List Item → List Item → List Item

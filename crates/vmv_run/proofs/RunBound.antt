@@ -6,7 +6,7 @@ use Rattle.std.proofs.lemmas.Bool.Decides.{nat_tests}
 use Rattle.vmv_tree.specs.declared.name.Name.{Name}
 use Rattle.vmv_tree.specs.Tree.{Stmt, copy, compute, call, assert, choose, repeat, Block, [], ◌⨾◌}
 use Rattle.vmv_tree.specs.Limits.{asks, block_asks}
-use Rattle.vmv_run.specs.Callees.{Callees, BlockCallees}
+use Rattle.vmv_run.proofs.Callees.{Callees, BlockCallees}
 use Rattle.vmv_tree.specs.Run.{Valuation, Answers, End, next, Outcome, Does, Ends, InARow, Turns, Calls, Runs, RunsAll, value, assign, sites, block_sites, turns_of}
 
 abbrev pub IsWithin : ℕ → Does → Type 0

@@ -5,7 +5,7 @@ use Rattle.vmv_tree.specs.declared.name.Name.{Name}
 use Rattle.vmv_tree.specs.Words.{IsWord}
 use Rattle.vmv_tree.specs.Tree.{Stmt, copy, compute, call, assert, choose, repeat, Block, [], ◌⨾◌, Body, Item, outside, helper, entry}
 use Rattle.vmv_tree.specs.Run.{Valuation, Answers, End, next, Outcome, done, Does, Ends, InARow, Turns, Calls, Runs, RunsAll, RunsBody, RunsItem, RunsAbove, set_to_outcome, outcome_of, value, assign, sites, block_sites, start}
-use Rattle.vmv_run.specs.Callees.{Callees, BlockCallees, ItemCallees, Declares, IsResolved}
+use Rattle.vmv_run.proofs.Callees.{Callees, BlockCallees, ItemCallees, Declares, IsResolved}
 use Rattle.vmv_run.specs.Constant.{AreFrom}
 use Rattle.vmv_run.proofs.RunFixed.{Alike}
 
@@ -31,7 +31,7 @@ InARow-can c first second f g v = go (f v)
         let w = g mid in
         (a ++ w.0, w.1, inr (mid, a, w.0, h, w.2, refl), AreFrom-append c a w.0 k w.3)
 
-Turns-can : (c : Name → ℤ) (index : Name) (body : Does) (n i : ℕ) → Can c body → Can c (Turns index body n i)
+pub Turns-can : (c : Name → ℤ) (index : Name) (body : Does) (n i : ℕ) → Can c body → Can c (Turns index body n i)
 Turns-can c index body zero i f v = ([], next v, (refl, refl), tt)
 Turns-can c index body (suc n) i f v =
     InARow-can c (λ w. body (assign w index (pos i))) (Turns index body n (i + 1)) (λ w. f (assign w index (pos i))) (Turns-can c index body n (i + 1) f) v
@@ -46,7 +46,7 @@ Answer c calls callee = (words : List ℤ) → (a : Answers) × (d : Outcome) ×
 
 module _ (c : Name → ℤ) (calls : Calls) (proc : Name) where
   mutual
-    Runs-can : (k : ℕ) (s : Stmt) → Callees (Answer c calls) s → Can c (Runs calls proc k s)
+    pub Runs-can : (k : ℕ) (s : Stmt) → Callees (Answer c calls) s → Can c (Runs calls proc k s)
     Runs-can k (copy to from) h v = ([], _, (refl, refl), tt)
     Runs-can k (compute to op left right) h v = ([], _, (refl, refl), tt)
     Runs-can k (call to callee args) h v =
@@ -58,7 +58,7 @@ module _ (c : Name → ℤ) (calls : Calls) (proc : Name) where
     Runs-can k (repeat index bound cap body) h v =
         MatchBool-can c _ (λ v a e. Ends a e (End.fail (record { proc = proc; number = k + 1 }))) (Turns index (RunsAll calls proc (k + 1) body) _ 0) v (λ w. ([], _, (refl, refl), tt)) (Turns-can c index (RunsAll calls proc (k + 1) body) _ 0 (RunsAll-can (k + 1) body h))
 
-    RunsAll-can : (k : ℕ) (b : Block) → BlockCallees (Answer c calls) b → Can c (RunsAll calls proc k b)
+    pub RunsAll-can : (k : ℕ) (b : Block) → BlockCallees (Answer c calls) b → Can c (RunsAll calls proc k b)
     RunsAll-can k [] h v = ([], _, (refl, refl), tt)
     RunsAll-can k (s ⨾ rest) h v = InARow-can c (Runs calls proc k s) (RunsAll calls proc (k + sites s) rest) (Runs-can k s h.0) (RunsAll-can (k + sites s) rest h.1) v
 

@@ -6,7 +6,7 @@ use Rattle.vmv_tree.specs.declared.name.Name.{Name}
 use Rattle.vmv_tree.specs.Tree.{Stmt, copy, compute, call, assert, choose, repeat, Block, [], ◌⨾◌}
 use Rattle.vmv_tree.specs.Run.{Valuation, Answers, End, next, Outcome, Does, InARow, Turns, Calls, Runs, RunsAll, value, assign, holds, sites, block_sites, turns_of}
 use Rattle.vmv_tree.specs.Limits.{steps, block_steps}
-use Rattle.vmv_run.specs.Callees.{Callees, BlockCallees}
+use Rattle.vmv_run.proofs.Callees.{Callees, BlockCallees}
 use Rattle.vmv_run.specs.Steps.{Counts, in_a_row, of_turns, of_part, run_steps, block_run_steps}
 use Rattle.vmv_run.proofs.RunBound.{turns_within}
 
