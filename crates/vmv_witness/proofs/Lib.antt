@@ -1,0 +1,14 @@
+pub mod Writing
+pub mod Entries
+pub mod Bytes
+pub mod Digits
+pub mod Follow
+pub mod Clean
+pub mod Places
+pub mod Exits
+pub mod Tails
+pub mod Parts
+pub mod PairLists
+pub mod Whole
+pub mod OneText
+pub mod OneFault
