@@ -1,0 +1,4 @@
+pub mod Whole
+pub mod Assumed
+pub mod Change
+pub mod Within
