@@ -1,0 +1,13 @@
+pub mod Quotient
+pub mod Result
+pub mod Ends
+pub mod Places
+pub mod StepPoints
+pub mod LoopPoints
+pub mod StepOrder
+pub mod Told
+pub mod Procedures
+pub mod Entering
+pub mod EnterPoints
+pub mod Asking
+pub mod Arguments

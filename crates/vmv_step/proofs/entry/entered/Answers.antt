@@ -1,0 +1,24 @@
+use Rattle.std.proofs.Common.{◌∙◌, arith}
+use Rattle.vmv_step.proofs.Told.{up_of, clash}
+use Rattle.vmv_step.proofs.entry.entered.Goals as goal
+
+pub returns : goal.returns
+returns c =
+    let up' = up_of _ _ c.is_bottom.ensures c.if-is_bottom.false in
+    let vars = c.top-top.ensures.vars in
+    let bounds = c.with_bounds.ensures in
+    let marks = c.with_marks.ensures in
+    record {
+      vars = c.norm.ensures.vars ∙ marks.vars ∙ bounds.vars ∙ vars;
+      bottom = λ none. absurd (clash _ none up');
+      entered = λ h. (
+        c.with_marks.result,
+        record {
+          vars = marks.vars ∙ bounds.vars ∙ vars;
+          not_bottom = marks.not_bottom;
+          bounds = λ i j hi hj. marks.bounds i j ∙ bounds.bounds i j (omega arith) (omega arith);
+          marks = λ i hi. marks.marks i;
+        },
+        c.norm.ensures,
+      );
+    }

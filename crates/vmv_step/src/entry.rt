@@ -1,0 +1,152 @@
+ghost use Rattle.std.specs.Prelude.{◌≡◌, ◌≢◌, ◌+◌, ◌≤◌, ◌<◌, ◌^◌, ◌-◌, ℕ, pos, negsuc, ◌≤ℤ◌, Some, length, slice_get, false, if◌then◌else◌, nat_le};
+ghost use Rattle.vmv_tree.specs.Tree as tree;
+ghost use Rattle.vmv_tree.specs.View.{item_of, items_of};
+ghost use Rattle.vmv_snapshot.specs.declared.code.Code.{Code};
+ghost use Rattle.vmv_snapshot.specs.Procs.{procs, params_of};
+ghost use Rattle.vmv_snapshot.specs.Resolution.{procs_of};
+ghost use Rattle.vmv_zone.specs.Bounds.{top_bound};
+ghost use Rattle.vmv_zone.specs.Zone.{vars_of, NotBottom, bound_of, mark_of, IsTop};
+ghost use Rattle.vmv_step.specs.Enter.{declared_count, is_declared, entered_bound, IsStart, IsEntered, IsProcOf};
+
+use vmv_snapshot::{ProcId, Snapshot};
+use vmv_tree::Item;
+use vmv_zone::Zone;
+
+/// The state in which a procedure starts: the input on the parameters, 0 for each declared name, and any words in the
+/// slots of loops.
+///
+/// The procedure is one of the snapshot's, and the input is over its parameters. The input needn't be normal.
+pub fn enter(snapshot: &Snapshot, proc: ProcId, input: &Zone) -> Zone
+    requires proc { proc.0 < length (procs_of snapshot.now) }
+    requires input { (item : tree.Item) → slice_get (procs_of snapshot.now) proc.0 ≡ Some item → vars_of input.now ≡ length (params_of item) }
+    ensures { (item : tree.Item) (code : Code) → slice_get (procs_of snapshot.now) proc.0 ≡ Some item → slice_get snapshot.now.codes proc.0 ≡ Some code → IsEntered input.now (length (params_of item)) (declared_count item) code.vars result }
+{
+    let code = snapshot.code(proc);
+    let declared = declared_of(snapshot.program().items.as_slice(), proc);
+    entered(input, declared as u8, code.vars)
+}
+
+/// How many names the procedure of this number declares; 0 where there is none.
+fn declared_of(items: &[Item], proc: ProcId) -> usize
+    ensures { (item : tree.Item) → slice_get (procs (items_of items.now)) proc.0 ≡ Some item → result ≡ declared_count item }
+{
+    let mut before = proc.0;
+    for item in items {
+        if let Some(count) = declared_in(item) {
+            if before == 0 {
+                return count;
+            }
+            before -= 1;
+        }
+    }
+    0
+}
+
+/// How many names the item declares, where it is a procedure.
+fn declared_in(item: &Item) -> Option<usize>
+    ensures { IsProcOf (item_of item.now) result }
+{
+    match item {
+        Item::Outside { .. } => None,
+        Item::Helper { body, .. } => Some(body.vars.len()),
+        Item::Entry { body, .. } => Some(body.vars.len()),
+    }
+}
+
+/// The state in which a procedure with so many declared names and variables starts.
+fn entered(input: &Zone, declared: u8, count: u8) -> Zone
+    requires few { count ≤ 16 }
+    requires room { vars_of input.now + declared ≤ count }
+    ensures { IsEntered input.now (vars_of input.now) declared count result }
+{
+    if input.is_bottom() {
+        return Zone::bottom(count);
+    }
+    let top = Zone::top(count);
+    with_marks(with_bounds(input, declared, &top), input).norm()
+}
+
+/// Whether the thing is the variable of a declared name: one of those that stand behind so many parameters.
+fn is_declared(params: u8, declared: u8, i: u8) -> bool
+    requires { params + declared ≤ 16 }
+    ensures { result ≡ is_declared params declared i }
+{
+    params < i && i <= params + declared
+}
+
+/// The bound on `i - j` in the state in which a procedure starts.
+fn bound_between(input: &Zone, declared: u8, top: &Zone, i: u8, j: u8) -> i128
+    requires few { vars_of input.now + declared ≤ 16 }
+    requires top { IsTop top.now }
+    requires i { i ≤ vars_of top.now }
+    requires j { j ≤ vars_of top.now }
+    ensures value { result ≡ entered_bound input.now (vars_of input.now) declared i j }
+    ensures low { negsuc (2 ^ 64 - 1) ≤ℤ result }
+    ensures high { result ≤ℤ top_bound i j }
+{
+    let params = input.vars();
+    if i <= params && j <= params {
+        return input.bound(i, j);
+    }
+    let above = is_declared(params, declared, i) && j == 0;
+    let below = i == 0 && is_declared(params, declared, j);
+    if above || below { 0 } else { top.bound(i, j) }
+}
+
+/// The state with the bounds on `i` with which a procedure starts.
+fn with_row(zone: Zone, input: &Zone, declared: u8, top: &Zone, i: u8) -> Zone
+    requires few { vars_of input.now + declared ≤ 16 }
+    requires top { IsTop top.now }
+    requires count { vars_of top.now ≤ 16 }
+    requires same { vars_of zone ≡ vars_of top.now }
+    requires not_bottom { NotBottom zone }
+    requires i { i ≤ vars_of top.now }
+    ensures vars { vars_of result ≡ vars_of zone }
+    ensures not_bottom { NotBottom result }
+    ensures row { (j : ℕ) → j ≤ vars_of zone → bound_of result i j ≡ entered_bound input.now (vars_of input.now) declared i j }
+    ensures others { (p q : ℕ) → p ≤ vars_of zone → q ≤ vars_of zone → p ≢ i → bound_of result p q ≡ bound_of zone p q }
+    ensures marks { (p : ℕ) → mark_of result p ≡ mark_of zone p }
+{
+    let mut row = zone;
+    for j in 0..zone.vars() + 1 {
+        row = row.with_bound(i, j, bound_between(input, declared, top, i, j));
+    }
+    row
+}
+
+/// The state with the bounds with which a procedure starts, and no marks.
+fn with_bounds(input: &Zone, declared: u8, top: &Zone) -> Zone
+    requires few { vars_of input.now + declared ≤ 16 }
+    requires top { IsTop top.now }
+    requires count { vars_of top.now ≤ 16 }
+    ensures vars { vars_of result ≡ vars_of top.now }
+    ensures not_bottom { NotBottom result }
+    ensures bounds { (p q : ℕ) → p ≤ vars_of top.now → q ≤ vars_of top.now → bound_of result p q ≡ entered_bound input.now (vars_of input.now) declared p q }
+    ensures marks { (p : ℕ) → mark_of result p ≡ false }
+{
+    let mut zone = *top;
+    for i in 0..top.vars() + 1 {
+        zone = with_row(zone, input, declared, top, i);
+    }
+    zone
+}
+
+/// The state with the input's marks.
+fn with_marks(zone: Zone, input: &Zone) -> Zone
+    requires not_bottom { NotBottom zone }
+    requires inside { vars_of input.now ≤ vars_of zone }
+    requires few { vars_of input.now ≤ 16 }
+    requires unmarked { (p : ℕ) → mark_of zone p ≡ false }
+    ensures vars { vars_of result ≡ vars_of zone }
+    ensures not_bottom { NotBottom result }
+    ensures bounds { (p q : ℕ) → bound_of result p q ≡ bound_of zone p q }
+    ensures marks { (p : ℕ) → mark_of result p ≡ (if nat_le p (vars_of input.now) then mark_of input.now p else false) }
+{
+    let mut marked = zone;
+    for i in 1..input.vars() + 1 {
+        if input.marked(i) {
+            marked = marked.with_mark(i);
+        }
+    }
+    marked
+}
