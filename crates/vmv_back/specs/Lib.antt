@@ -1,0 +1,5 @@
+pub mod Firsts
+pub mod Assigned
+pub mod Facts
+pub mod Boxes
+pub mod Kept
