@@ -1,0 +1,4 @@
+pub mod Thresholds
+pub mod Sizes
+pub mod Walk
+pub mod Tables

@@ -1,0 +1,10 @@
+pub mod Lists
+pub mod Match
+pub mod Above
+pub mod Codes
+pub mod Walking
+pub mod Counting
+pub mod Orders
+pub mod Conds
+pub mod Forms
+pub mod Bodies
