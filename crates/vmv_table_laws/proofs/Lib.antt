@@ -1,0 +1,4 @@
+mod States
+mod Steps
+mod Walks
+mod Rows
