@@ -13,6 +13,11 @@ mod queues;
 mod row_causes;
 
 pub use desk::{Desk, StartFault};
+pub use vmv_keeper::{
+    Act, Bench, Benches, Change, Command, Compared, Held, Inspected, Judge, KeepFault, Keeper,
+    Kept, Label, Labels, Numbers, PendingRow, PendingRows, Query, Reply, Submitted, VersionRow,
+    VersionRows,
+};
 
 #[cfg(test)]
 mod tests;
