@@ -1,18 +1,24 @@
 -- A printed verdict is right.
-use Rattle.std.proofs.Common.{◌≡◌, ◌≢◌, ◌⊎◌, inl, inr, ⊎_elim, ℕ, nat_lt, nat_eq, ◌==◌, eqb, Bool, true, false, if◌then◌else◌, MatchBool, Option, Some, List, [], ◌∷◌, ◌++◌, length, take, codes, refl, sym, ap, subst, arith, append_assoc, append-nil, ◌≤◌, ◌∙◌}
-use Rattle.std.proofs.lemmas.Bool.{eqb-true}
+use Rattle.std.proofs.Common.{◌≡◌, ◌≢◌, ◌⊎◌, inl, inr, ⊎_elim, ℕ, ◌+◌, nat_lt, nat_eq, ◌==◌, eqb, Bool, true, false, if◌then◌else◌, MatchBool, Option, Some, List, [], ◌∷◌, ◌++◌, length, take, codes, refl, sym, ap, subst, arith, append_assoc, append-nil, ◌≤◌, ◌∙◌}
+use Rattle.std.proofs.lemmas.Bool.{eqb-true, false≢true}
 use Rattle.std.specs.List.{starts_with}
+use Rattle.std.specs.Str.{bytes_eq}
 use Rattle.std.proofs.lemmas.List.{length-take, take-take, take_all}
 use Rattle.std.proofs.lemmas.Slice.Eq.{bytes_eq-Decides}
 use Rattle.vmv_tree.specs.declared.name.Name.{Name}
 use Rattle.vmv_tree.specs.Tree.{Item, outside, helper, entry}
 use Rattle.vmv_tree.specs.Safe.{Environment, Safe}
 use Rattle.vmv_text.specs.Grammar.{IsText}
-use Rattle.vmv_text.specs.First.{IsFirst}
+use Rattle.vmv_text.specs.First.{is_first}
 use Rattle.vmv_text.proofs.OneTree.{text_once}
 use Rattle.vmv_edge.specs.Outside.{IsAsTold, Appended, AppendedFront}
-use Rattle.vmv.specs.Report.{line, alarm_count, verdict_line, counts_line, alarm_lines, report, IsReport}
-use Rattle.vmv.specs.Command.{text_most, IsReview, IsLine, NotFirst, ReviewsTexts, Reviews, ReadReview, SaysRelativelyCorrect, VerdictHolds}
+use Rattle.vmv.specs.declared.task.Task.{Task}
+use Rattle.vmv.specs.declared.task.Task.TheVariants.{Review, Replay}
+use Rattle.vmv.specs.Report.{line, IsLine, alarm_count, verdict_line, counts_line, alarm_lines, report, IsReport}
+use Rattle.vmv_source.specs.declared.fault.TextFault.{TextFault}
+use Rattle.vmv_source.specs.declared.fault.TextFault.TheVariants.{TooLong}
+use Rattle.vmv.specs.Faults.{SaysFault, fault_end}
+use Rattle.vmv.specs.Command.{text_most, IsReview, IsCommand, ReviewsPrograms, ReviewsTexts, OnFiles, OnTold, SaysRelativelyCorrect, VerdictHolds}
 use Rattle.vmv.proofs.Sound.{clean_safe}
 
 -- what a front of a text begins with, the text begins with
@@ -47,37 +53,47 @@ report_safe (entry f params body ∷ []) printed status (clean, reviewed, is, me
 not_said : (text printed : List ℕ) → printed ≡ text → starts_with nat_eq text (line (codes "verdict relatively correct")) ≡ false → SaysRelativelyCorrect printed → ⊥
 not_said text printed is other said = let yes = subst SaysRelativelyCorrect is said in cc
 
-texts_safe : (base revision : List ℕ) (R : List Item) (printed : List ℕ) (status : ℕ) → ReviewsTexts base revision printed status → IsText revision R →
-    SaysRelativelyCorrect printed → (env : Environment) → Safe env R
-texts_safe base revision R printed status h text said env =
-    ⊎_elim
-    (λ (none : NotFirst base × IsLine (codes "base: not built yet") 4 printed status).
-    absurd (not_said (line (codes "base: not built yet")) printed none.1.0 refl said))
-    (λ (some : (B : List Item) × IsText base B × IsFirst B ×
-    ((NotFirst revision × IsLine (codes "revision: not built yet") 4 printed status)
-    ⊎ ((P : List Item) × IsText revision P × IsFirst P × IsReport P printed status))).
-    ⊎_elim
-    (λ (none : NotFirst revision × IsLine (codes "revision: not built yet") 4 printed status).
-    absurd (not_said (line (codes "revision: not built yet")) printed none.1.0 refl said))
-    (λ (found : (P : List Item) × IsText revision P × IsFirst P × IsReport P printed status).
-    subst (λ (P : List Item). Safe env P) (text_once revision found.0 R found.1 text) (report_safe found.0 printed status found.3 said env))
-    some.3)
-    h
-
 cases : (b : Bool) (P Q : Type 0) → MatchBool b P Q → P ⊎ Q
 cases true P Q h = inl h
 cases false P Q h = inr h
 
-reviews_safe : (base revision : List ℕ) (R : List Item) (printed : List ℕ) (status : ℕ) → Reviews base revision printed status → IsText revision R →
+-- the line of a fault says something else
+fault_not_said : (name : List ℕ) (why : TextFault) (printed : List ℕ) (status : ℕ) → ((more : List ℕ) → starts_with nat_eq (name ++ more) (line (codes "verdict relatively correct")) ≡ false) →
+    SaysFault name why printed status → SaysRelativelyCorrect printed → ⊥
+fault_not_said name why printed status other says said = not_said (name ++ fault_end why) printed says.0 (other (fault_end why)) said
+
+base_not_said : (why : TextFault) (printed : List ℕ) (status : ℕ) → SaysFault (codes "base") why printed status → SaysRelativelyCorrect printed → ⊥
+base_not_said why printed status says said = fault_not_said (codes "base") why printed status (λ more. refl) says said
+
+revision_not_said : (why : TextFault) (printed : List ℕ) (status : ℕ) → SaysFault (codes "revision") why printed status → SaysRelativelyCorrect printed → ⊥
+revision_not_said why printed status says said = fault_not_said (codes "revision") why printed status (λ more. refl) says said
+
+programs_safe : (B R : List Item) (printed : List ℕ) (status : ℕ) → ReviewsPrograms B R printed status → SaysRelativelyCorrect printed → (env : Environment) → Safe env R
+programs_safe B R printed status h said env =
+    ⊎_elim
+    (λ (built : MatchBool (is_first R) (IsReport R printed status) (IsLine (codes "revision: not built yet") 4 printed status)).
+    ⊎_elim
+    (λ (report : IsReport R printed status). report_safe R printed status report said env)
+    (λ (none : IsLine (codes "revision: not built yet") 4 printed status). absurd (not_said (line (codes "revision: not built yet")) printed none.0 refl said))
+    (cases (is_first R) _ _ built))
+    (λ (none : IsLine (codes "base: not built yet") 4 printed status). absurd (not_said (line (codes "base: not built yet")) printed none.0 refl said))
+    (cases (is_first B) _ _ h)
+
+texts_safe : (base revision : List ℕ) (R : List Item) (printed : List ℕ) (status : ℕ) → ReviewsTexts base revision printed status → IsText revision R →
+    SaysRelativelyCorrect printed → (env : Environment) → Safe env R
+texts_safe base revision R printed status (inl (why, has, says)) text said env = absurd (base_not_said why printed status says said)
+texts_safe base revision R printed status (inr (B, source, (inl (why, has, says)))) text said env = absurd (revision_not_said why printed status says said)
+texts_safe base revision R printed status (inr (B, source, (inr (P, source', reviews)))) text said env =
+    subst (λ (P : List Item). Safe env P) (text_once revision P R source'.0 text) (programs_safe B P printed status reviews said env)
+
+reviews_safe : (base revision : List ℕ) (R : List Item) (printed : List ℕ) (status : ℕ) → OnFiles Review base revision printed status → IsText revision R →
     SaysRelativelyCorrect printed → (env : Environment) → Safe env R
 reviews_safe base revision R printed status h text said env =
     ⊎_elim
-    (λ (long : IsLine (codes "base: limit bytes found 1048577 most 1048576") 5 printed status).
-    absurd (not_said (line (codes "base: limit bytes found 1048577 most 1048576")) printed long.0 refl said))
-    (λ (short : MatchBool (nat_lt text_most (length revision)) (IsLine (codes "revision: limit bytes found 1048577 most 1048576") 5 printed status) (ReviewsTexts base revision printed status)).
+    (λ (long : SaysFault (codes "base") (TooLong (text_most + 1)) printed status). absurd (base_not_said (TooLong (text_most + 1)) printed status long said))
+    (λ (short : MatchBool (nat_lt text_most (length revision)) (SaysFault (codes "revision") (TooLong (text_most + 1)) printed status) (ReviewsTexts base revision printed status)).
     ⊎_elim
-    (λ (long : IsLine (codes "revision: limit bytes found 1048577 most 1048576") 5 printed status).
-    absurd (not_said (line (codes "revision: limit bytes found 1048577 most 1048576")) printed long.0 refl said))
+    (λ (long : SaysFault (codes "revision") (TooLong (text_most + 1)) printed status). absurd (revision_not_said (TooLong (text_most + 1)) printed status long said))
     (λ (both : ReviewsTexts base revision printed status). texts_safe base revision R printed status both text said env)
     (cases (nat_lt text_most (length revision)) _ _ short))
     (cases (nat_lt text_most (length base)) _ _ h)
@@ -96,10 +112,10 @@ told_front before after old printed text was is (n, h) =
     (n, append_same old printed (take n text) h')
 
 -- whatever front of a review was printed, the verdict that it says holds
-pub verdict_holds : (words : List (List ℕ)) (told : List ℕ → Option (List ℕ)) (before after : Option (List ℕ)) (base_name revision_name text : List ℕ) (status : ℕ) →
-    IsReview words base_name revision_name → ReadReview (told base_name) (told revision_name) text status → AppendedFront before text after →
+review_holds : (words : List (List ℕ)) (told : List ℕ → Option (List ℕ)) (before after : Option (List ℕ)) (base_name revision_name text : List ℕ) (status : ℕ) →
+    IsReview words base_name revision_name → OnTold Review (told base_name) (told revision_name) text status → AppendedFront before text after →
     VerdictHolds words told before after
-verdict_holds words told before after base_name revision_name text status review (read_base, read_revision, base_told, revision_told, reviews) taken
+review_holds words told before after base_name revision_name text status review (read_base, read_revision, base_told, revision_told, reviews) taken
     b r base revision old printed B R review' told_b told_r text_b text_r was is said env covers covers' safe =
     let same : revision_name ≡ r = third_word base_name revision_name b r (sym review.words_are ∙ review'.words_are) in
     let told' : told revision_name ≡ Some revision = ap told same ∙ told_r in
@@ -110,6 +126,23 @@ verdict_holds words told before after base_name revision_name text status review
   where
     third_word : (x y z w : List ℕ) → ◌≡◌ {A = List (List ℕ)} (codes "review" ∷ x ∷ y ∷ []) (codes "review" ∷ z ∷ w ∷ []) → y ≡ w
     third_word x y z w e = cc
+
+-- the words of a replay are those of no review, so no verdict is said
+replay_holds : (words : List (List ℕ)) (told : List ℕ → Option (List ℕ)) (before after : Option (List ℕ)) (first second : List ℕ) → IsCommand Replay words first second →
+    VerdictHolds words told before after
+replay_holds words told before after first second command b r base revision old printed B R review =
+    let same : codes "replay" ≡ codes "review" = heads (codes "replay") (codes "review") (first ∷ second ∷ []) (b ∷ r ∷ []) (sym command.words_are ∙ review.words_are) in
+    let yes : bytes_eq (codes "replay") (codes "review") ≡ true = (bytes_eq-Decides (codes "replay") (codes "review")).1 same in
+    absurd (false≢true yes)
+  where
+    heads : (x y : List ℕ) (xs ys : List (List ℕ)) → ◌≡◌ {A = List (List ℕ)} (x ∷ xs) (y ∷ ys) → x ≡ y
+    heads x y xs ys e = cc
+
+-- the same of any command
+pub verdict_holds : (task : Task) (words : List (List ℕ)) (told : List ℕ → Option (List ℕ)) (before after : Option (List ℕ)) (first second text : List ℕ) (status : ℕ) →
+    IsCommand task words first second → OnTold task (told first) (told second) text status → AppendedFront before text after → VerdictHolds words told before after
+verdict_holds Review words told before after first second text status command on taken = review_holds words told before after first second text status command on taken
+verdict_holds Replay words told before after first second text status command on taken = replay_holds words told before after first second command
 
 -- where nothing was printed, no verdict was
 pub nothing_said : (before : Option (List ℕ)) (old printed : List ℕ) → before ≡ Some old → before ≡ Some (old ++ printed) → SaysRelativelyCorrect printed → ⊥

@@ -8,6 +8,10 @@ use Rattle.vmv.specs.Ranges.{IsReviewed}
 abbrev pub line : List ℕ → List ℕ
 line text = text ++ 10 ∷ []
 
+-- what is printed is this line, with this status
+abbrev pub IsLine : List ℕ → ℕ → List ℕ → ℕ → Type 0
+IsLine text meant printed status = (printed ≡ line text) × (status ≡ meant)
+
 abbrev pub clean_count : List Bool → ℕ
 clean_count clean = count_by (λ b. b) clean
 

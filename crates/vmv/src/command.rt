@@ -1,11 +1,11 @@
 ghost use Rattle.std.specs.Prelude.{◌≡◌, ◌≢◌, ◌⊎◌, ◌≤◌, ℕ, List, [], map};
 ghost use Rattle.std.specs.String.{string_bytes};
-ghost use Rattle.vmv.specs.Command.{IsReview, IsWhole, Outputs, VerdictHolds};
+ghost use Rattle.vmv.specs.Command.{IsNoCommand, IsWhole, Outputs, VerdictHolds};
 ghost use Rattle.vmv_edge.specs.Outside.{Rose, Appended, AppendedFront};
 
 use crate::output::{Stop, print};
-use crate::texts::review_names;
-use crate::words::review_words;
+use crate::texts::output_of_names;
+use crate::words::command_words;
 use std::alloc::Global;
 use std::thread::Threads;
 use vmv_edge::{Door, Shelf, Sink, Vault};
@@ -13,8 +13,10 @@ use vmv_edge::{Door, Shelf, Sink, Vault};
 const USAGE: &[u8] =
     b"usage: vmv review BASE REV [--workers N] [--proof] | baseline BASE [--workers N] | recheck BASE REV PROOF | replay REV WITNESS | sample NUMBER [--workers N] | serve ADDRESS STORE COUNT [--workers N]\n";
 
-/// Does the command that the words say, and gives its status: 0 or 1 for a report without or with alarms, 4 or 5 for a
-/// text at fault, 6 where a read failed, 7 where a write failed, 8 where memory ran out, 9 for other words.
+/// Does the command that the words say, and gives its status: for a review 0 or 1 for a report without or with alarms; for
+/// a replay 0 where the run fails at the named site of the witness, and 1 where it doesn't or the witness doesn't fit; 5 for
+/// a text that meets a limit, 4 for one that has another fault, or whose program isn't of the first class where it is
+/// reviewed, 6 where a read failed, 7 where a write failed, 8 where memory ran out, 9 for other words.
 ///
 /// Both texts are read first, each of at most 1,048,576 bytes; then the work is done; then the whole output is written.
 pub fn run<R: Threads + Sync, F: Shelf, O: Sink, V: Vault, D: Door>(
@@ -27,7 +29,7 @@ pub fn run<R: Threads + Sync, F: Shelf, O: Sink, V: Vault, D: Door>(
     _door: &mut D,
 ) -> u8
     ensures output { IsWhole result → (printed : List ℕ) × Outputs (map string_bytes words.now) (F.told shelf.old) printed result × Appended (O.taken out.old) printed (O.taken out.new) }
-    ensures usage { ((base revision : List ℕ) → IsReview (map string_bytes words.now) base revision → ⊥) → (result ≡ 9) ⊎ (result ≡ 7) }
+    ensures usage { IsNoCommand (map string_bytes words.now) → (result ≡ 9) ⊎ (result ≡ 7) }
     ensures shelf_failed { result ≡ 6 → Rose (F.fault_count shelf.old) (F.fault_count shelf.new) }
     ensures shelf_stands { result ≢ 6 → F.fault_count shelf.new ≡ F.fault_count shelf.old }
     ensures nothing { (result ≡ 6) ⊎ (result ≡ 8) → Appended (O.taken out.old) [] (O.taken out.new) }
@@ -37,10 +39,10 @@ pub fn run<R: Threads + Sync, F: Shelf, O: Sink, V: Vault, D: Door>(
     ensures prefix { result ≡ 7 → (printed : List ℕ) × (status : ℕ) × Outputs (map string_bytes words.now) (F.told shelf.old) printed status × AppendedFront (O.taken out.old) printed (O.taken out.new) }
     ensures relatively_correct { VerdictHolds (map string_bytes words.now) (F.told shelf.old) (O.taken out.old) (O.taken out.new) }
 {
-    let Some(names) = review_words(words) else {
+    let Some(command) = command_words(words) else {
         return print(out, USAGE, 9);
     };
-    match review_names(alloc, shelf, names.base, names.revision) {
+    match output_of_names(alloc, shelf, command.task, command.first, command.second) {
         Ok(output) => print(out, output.text.bytes(), output.status),
         Err(Stop::Failed) => 6,
         Err(Stop::Memory) => 8,

@@ -2,10 +2,13 @@
 #![tactic(auto)]
 
 mod command;
+mod faults;
 mod output;
 mod ranges;
+mod replays;
 mod report;
 mod review;
+mod task;
 mod texts;
 mod words;
 

@@ -38,7 +38,8 @@ fn counts_line(alloc: Global, clean: &[bool]) -> Result<String, AllocError>
     counts_of(alloc, cleans(clean), alarms(clean))
 }
 
-fn site_end(alloc: Global, site: usize) -> Result<String, AllocError>
+/// The end of a line that names a site, behind the name of its procedure.
+pub(crate) fn site_end(alloc: Global, site: usize) -> Result<String, AllocError>
     ensures { IfOk result (λ end. string_bytes end ≡ site_end site) }
 {
     format!(in alloc; "#{site}\n")

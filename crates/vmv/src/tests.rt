@@ -13,6 +13,14 @@ const DOUBLE: &str = "entry e(n: 1..9) { var x; x = n * 2; assert x <= 18; retur
 
 const TWO: &str = "entry e() { return 0; } entry f() { return 0; }";
 
+const CUT: &str = "outside read(0);\nentry e() { var q; q = re";
+
+const SIXTEEN: &str =
+    "entry e() { var v1, v2, v3, v4, v5, v6, v7, v8, v9, v10, v11, v12, v13, v14, v15, v16; return 0; }";
+
+const SEVENTEEN: &str =
+    "entry e() { var v1, v2, v3, v4, v5, v6, v7, v8, v9, v10, v11, v12, v13, v14, v15, v16, v17; return 0; }";
+
 const CORRECT: &[u8] = b"verdict relatively correct\nrows clean 2 hidden 0 regression 0 alarm 0\n";
 
 const ALARM: &[u8] = b"verdict alarms\nrows clean 1 hidden 0 regression 0 alarm 1\n  alarm e e#2\n";
@@ -96,19 +104,113 @@ fn straight_line_entries(rt: HostRuntime) -> Result<(), Fail> {
     reviews(&rt, rt.alloc(), DOUBLE, DOUBLE, &correct)
 }
 
+/// Two texts, and the line and the status of their review.
+const LINES: [(&str, &str, &str, u8); 19] = [
+    (CUT, SUM, "base: syntax at line 2 column 26\n", 4),
+    (
+        SUM,
+        SEVENTEEN,
+        "revision: limit variables found 17 most 16 at line 1 column 7\n",
+        5,
+    ),
+    ("entry e() {", SUM, "base: syntax at line 1 column 12\n", 4),
+    (
+        SUM,
+        "entry e() { return x; }",
+        "revision: unknown name at line 1 column 20\n",
+        4,
+    ),
+    (
+        "entry e() {\n  var a, a;\n  return 0;\n}",
+        SUM,
+        "base: repeated name at line 2 column 10\n",
+        4,
+    ),
+    (
+        "outside f(1);\nentry e() { var x; x = f(); return x; }",
+        SUM,
+        "base: wrong number of arguments at line 2 column 24\n",
+        4,
+    ),
+    (
+        SUM,
+        "entry e() { repeat i to 1 cap 1 { i = 0; } return 0; }",
+        "revision: loop index assigned at line 1 column 35\n",
+        4,
+    ),
+    (
+        SUM,
+        "entry e(n: 2..1) { return n; }",
+        "revision: empty range at line 1 column 9\n",
+        4,
+    ),
+    (
+        "outside f(17);",
+        SUM,
+        "base: limit arity found 17 most 16 at line 1 column 9\n",
+        5,
+    ),
+    (
+        SUM,
+        "entry e() { if 0 < 1 { if 0 < 1 { if 0 < 1 { if 0 < 1 { if 0 < 1 { if 0 < 1 { if 0 < 1 { if 0 < 1 { if 0 < 1 { } } } } } } } } } return 0; }",
+        "revision: limit nesting found 9 most 8 at line 1 column 7\n",
+        5,
+    ),
+    (
+        "entry e() { repeat i to 0 cap 49999 { assert 0 == 0; } assert 0 == 0; return 0; }",
+        SUM,
+        "base: limit steps found 100001 most 100000 at line 1 column 7\n",
+        5,
+    ),
+    (
+        "outside f(0);\nentry e() { var x; repeat i to 0 cap 10001 { x = f(); } return 0; }",
+        SUM,
+        "base: limit calls found 10001 most 10000 at line 2 column 7\n",
+        5,
+    ),
+    (
+        "entry e() { return x; }",
+        CUT,
+        "base: unknown name at line 1 column 20\n",
+        4,
+    ),
+    (CUT, SEVENTEEN, "base: syntax at line 2 column 26\n", 4),
+    (TWO, TWO, "base: not built yet\n", 4),
+    (TWO, SUM, "base: not built yet\n", 4),
+    (SUM, TWO, "revision: not built yet\n", 4),
+    ("", "", "base: not built yet\n", 4),
+    (TWO, CUT, "revision: syntax at line 2 column 26\n", 4),
+];
+
 #[test]
-fn texts_that_are_not_built_yet(rt: HostRuntime) -> Result<(), Fail> {
-    let base = Expected {
-        text: b"base: not built yet\n",
+fn texts_at_fault(rt: HostRuntime) -> Result<(), Fail> {
+    for (base, revision, line, status) in LINES {
+        let text = line.as_bytes();
+        reviews(&rt, rt.alloc(), base, revision, &Expected { text, status })?;
+    }
+    Ok(())
+}
+
+#[test]
+fn texts_that_are_not_utf8(rt: HostRuntime) -> Result<(), Fail> {
+    let alloc = rt.alloc();
+    let mut shelf = FaultlessShelf::new(alloc);
+    shelf.hold(alloc, "base", SUM.as_bytes())?;
+    shelf.hold(alloc, "revision", b"entry e() { return 0; } // \xc3(")?;
+    let cut = Expected {
+        text: b"revision: not UTF-8 at byte 27\n",
         status: 4,
     };
-    let revision = Expected {
-        text: b"revision: not built yet\n",
-        status: 4,
+    prints(&rt, alloc, &REVIEW, &mut shelf, sink(alloc, 4096)?, &cut)
+}
+
+#[test]
+fn most_variables(rt: HostRuntime) -> Result<(), Fail> {
+    let correct = Expected {
+        text: b"verdict relatively correct\nrows clean 0 hidden 0 regression 0 alarm 0\n",
+        status: 0,
     };
-    reviews(&rt, rt.alloc(), "entry e() {", SUM, &base)?;
-    reviews(&rt, rt.alloc(), TWO, "", &base)?;
-    reviews(&rt, rt.alloc(), SUM, TWO, &revision)
+    reviews(&rt, rt.alloc(), SUM, SIXTEEN, &correct)
 }
 
 #[test]
@@ -240,3 +342,5 @@ fn texts_that_are_too_long(rt: HostRuntime) -> Result<(), Fail> {
         &built,
     )
 }
+
+mod replays;

@@ -1,21 +1,22 @@
-ghost use Rattle.std.specs.Prelude.{◌≡◌, ◌≤◌, ◌∷◌, [], length, IfOk, MatchOption, IfSome, IsNone, IsErrOf};
-ghost use Rattle.vmv.specs.Command.{text_most, ReviewsTexts, ReadReview};
+ghost use Rattle.std.specs.Prelude.{◌≡◌, ◌+◌, ◌≤◌, ◌∷◌, [], length, IfOk, MatchOption, IfSome, IsNone, IsErrOf};
+ghost use Rattle.vmv.specs.Command.{text_most, first_name, second_name, ReviewsPrograms, ReviewsTexts, OnTexts, OnTold};
 ghost use Rattle.vmv.specs.Report.{IsReport};
 ghost use Rattle.vmv_edge.specs.Outside.{Rose, IsAsTold, IsMoreThan};
 ghost use Rattle.vmv_text.specs.First.{IsFirst};
 ghost use Rattle.vmv_tree.specs.Tree.{entry};
 ghost use Rattle.vmv_tree.specs.View.{program_of, items_of, body_of};
 
+use crate::faults::fault_output;
 use crate::output::{Output, Stop};
+use crate::replays::replay_texts;
 use crate::report::{report, report_status};
 use crate::review::review_entry;
+use crate::task::Task;
 use std::alloc::{AllocError, Global};
 use vmv_edge::{Shelf, ShelfFault, Text};
-use vmv_text::{FirstFault, read_first};
+use vmv_source::{TextFault, parse};
+use vmv_text::{MOST_BYTES, is_first};
 use vmv_tree::{Body, Item, Name, Param, Program};
-
-// The most bytes that a text may have.
-const TEXT_MOST: usize = 1_048_576;
 
 // The parts of an entry.
 #[derive(Clone, Copy, Debug)]
@@ -55,19 +56,40 @@ fn review_program(alloc: Global, program: &Program) -> Result<Output, AllocError
     })
 }
 
+// The review of two valid programs.
+fn review_programs(alloc: Global, base: &Program, revision: &Program) -> Result<Output, AllocError>
+    ensures { IfOk result (λ output. ReviewsPrograms (program_of base.now) (program_of revision.now) output.text output.status) }
+{
+    if !is_first(base) {
+        return Output::of(alloc, b"base: not built yet\n", 4);
+    }
+    if !is_first(revision) {
+        return Output::of(alloc, b"revision: not built yet\n", 4);
+    }
+    review_program(alloc, revision)
+}
+
 // The review of two texts that aren't too long.
 fn review_texts(alloc: Global, base: &Text, revision: &Text) -> Result<Output, AllocError>
     ensures { IfOk result (λ output. ReviewsTexts base.now revision.now output.text output.status) }
 {
-    match read_first(alloc, base.bytes()) {
-        Ok(_) => {}
-        Err(FirstFault::NotBuilt) => return Output::of(alloc, b"base: not built yet\n", 4),
-        Err(FirstFault::Memory) => return Err(AllocError),
-    }
-    match read_first(alloc, revision.bytes()) {
-        Ok(program) => review_program(alloc, &program),
-        Err(FirstFault::NotBuilt) => Output::of(alloc, b"revision: not built yet\n", 4),
-        Err(FirstFault::Memory) => Err(AllocError),
+    let base = match parse(alloc, base.bytes()) {
+        Ok(base) => base,
+        Err(fault) => return fault_output(alloc, "base", fault),
+    };
+    let revision = match parse(alloc, revision.bytes()) {
+        Ok(revision) => revision,
+        Err(fault) => return fault_output(alloc, "revision", fault),
+    };
+    review_programs(alloc, base.program(), revision.program())
+}
+
+// What is against a text that was too long to be read.
+fn too_long() -> TextFault
+    ensures { result ≡ TextFault.TooLong (text_most + 1) }
+{
+    TextFault::TooLong {
+        found: MOST_BYTES + 1,
     }
 }
 
@@ -80,7 +102,7 @@ fn read_text<F: Shelf>(alloc: Global, shelf: &mut F, name: &str) -> Result<Optio
     ensures stands { ¬ (IsErrOf result Stop.Failed) → F.fault_count shelf.new ≡ F.fault_count shelf.old }
     ensures kept { F.told shelf.new ≡ F.told shelf.old }
 {
-    match shelf.read(alloc, name, TEXT_MOST) {
+    match shelf.read(alloc, name, MOST_BYTES) {
         Ok(text) => Ok(Some(text)),
         Err(ShelfFault::TooLong) => Ok(None),
         Err(ShelfFault::Failed) => Err(Stop::Failed),
@@ -88,26 +110,58 @@ fn read_text<F: Shelf>(alloc: Global, shelf: &mut F, name: &str) -> Result<Optio
     }
 }
 
-/// The review of the texts under two names. Both are read first.
-pub(crate) fn review_names<F: Shelf>(
+// What the first text of a command is called.
+fn first_name(task: Task) -> &'static str
+    ensures { result.now ≡ first_name task }
+{
+    match task {
+        Task::Review => "base",
+        Task::Replay => "revision",
+    }
+}
+
+// What the second is called.
+fn second_name(task: Task) -> &'static str
+    ensures { result.now ≡ second_name task }
+{
+    match task {
+        Task::Review => "revision",
+        Task::Replay => "witness",
+    }
+}
+
+// The output of a command on two texts that aren't too long.
+fn output_of_texts(
+    alloc: Global,
+    task: Task,
+    first: &Text,
+    second: &Text,
+) -> Result<Output, AllocError>
+    ensures { IfOk result (λ output. OnTexts task first.now second.now output.text output.status) }
+{
+    match task {
+        Task::Review => review_texts(alloc, first, second),
+        Task::Replay => replay_texts(alloc, first, second),
+    }
+}
+
+/// The output of a command on the texts under two names. Both are read first.
+pub(crate) fn output_of_names<F: Shelf>(
     alloc: Global,
     shelf: &mut F,
-    base: &str,
-    revision: &str,
+    task: Task,
+    first: &str,
+    second: &str,
 ) -> Result<Output, Stop>
-    ensures output { IfOk result (λ output. ReadReview (F.told shelf.old base.now) (F.told shelf.old revision.now) output.text output.status) }
+    ensures output { IfOk result (λ output. OnTold task (F.told shelf.old first.now) (F.told shelf.old second.now) output.text output.status) }
     ensures failed { IsErrOf result Stop.Failed → Rose (F.fault_count shelf.old) (F.fault_count shelf.new) }
     ensures stands { ¬ (IsErrOf result Stop.Failed) → F.fault_count shelf.new ≡ F.fault_count shelf.old }
 {
-    let Some(base) = read_text(alloc, shelf, base)? else {
-        return Ok(Output::of(alloc, b"base: limit bytes found 1048577 most 1048576\n", 5)?);
+    let Some(first) = read_text(alloc, shelf, first)? else {
+        return Ok(fault_output(alloc, first_name(task), too_long())?);
     };
-    let Some(revision) = read_text(alloc, shelf, revision)? else {
-        return Ok(Output::of(
-            alloc,
-            b"revision: limit bytes found 1048577 most 1048576\n",
-            5,
-        )?);
+    let Some(second) = read_text(alloc, shelf, second)? else {
+        return Ok(fault_output(alloc, second_name(task), too_long())?);
     };
-    Ok(review_texts(alloc, &base, &revision)?)
+    Ok(output_of_texts(alloc, task, &first, &second)?)
 }

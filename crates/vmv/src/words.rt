@@ -1,12 +1,15 @@
-ghost use Rattle.std.specs.Prelude.{◌≡◌, List, ℕ, map, MatchOption, IsTrue, not};
+ghost use Rattle.std.specs.Prelude.{◌≡◌, map, MatchOption};
 ghost use Rattle.std.specs.String.{string_bytes};
-ghost use Rattle.vmv.specs.Command.{is_plain, IsReview};
+ghost use Rattle.vmv.specs.Command.{is_plain, task_word, IsNoTask, IsNoCommand, IsCommand};
 
-/// The names of the two texts of a review.
+use crate::task::Task;
+
+/// A command and the names of its two texts.
 #[derive(Clone, Copy, Debug)]
-pub(crate) struct ReviewWords<'a> {
-    pub(crate) base: &'a str,
-    pub(crate) revision: &'a str,
+pub(crate) struct CommandWords<'a> {
+    pub(crate) task: Task,
+    pub(crate) first: &'a str,
+    pub(crate) second: &'a str,
 }
 
 fn is_plain(word: &str) -> bool
@@ -15,17 +18,35 @@ fn is_plain(word: &str) -> bool
     !word.as_bytes().starts_with(b"-")
 }
 
-/// The two names, where the words are a review.
-pub(crate) fn review_words<'a>(words: &'a [String]) -> Option<ReviewWords<'a>>
-    ensures { MatchOption result ((b r : List ℕ) → IsReview (map string_bytes words.now) b r → ⊥) (λ w. IsReview (map string_bytes words.now) w.base.now w.revision.now) }
+// The command of this word.
+fn task_of(word: &str) -> Option<Task>
+    ensures { MatchOption result (IsNoTask word.now) (λ task. word.now ≡ task_word task) }
 {
-    let [command, base, revision] = words else {
+    if word.as_bytes() == b"review".as_slice() {
+        return Some(Task::Review);
+    }
+    if word.as_bytes() == b"replay".as_slice() {
+        return Some(Task::Replay);
+    }
+    None
+}
+
+/// The command and the two names, where the words are a command on two texts.
+pub(crate) fn command_words<'a>(words: &'a [String]) -> Option<CommandWords<'a>>
+    ensures { MatchOption result (IsNoCommand (map string_bytes words.now)) (λ w. IsCommand w.task (map string_bytes words.now) w.first.now w.second.now) }
+{
+    let [command, first, second] = words else {
         return None;
     };
-    let base = base.as_str();
-    let revision = revision.as_str();
-    if command.as_bytes() != b"review".as_slice() || !is_plain(base) || !is_plain(revision) {
+    let first = first.as_str();
+    let second = second.as_str();
+    let task = task_of(command.as_str())?;
+    if !is_plain(first) || !is_plain(second) {
         return None;
     }
-    Some(ReviewWords { base, revision })
+    Some(CommandWords {
+        task,
+        first,
+        second,
+    })
 }

@@ -5,11 +5,11 @@ mod item;
 mod laws;
 mod lists;
 mod operand;
-mod print;
+mod printing;
 mod statement;
 
-pub use laws::canonical_text_is_read;
-pub use print::print_program;
+pub use laws::{canonical_text_has_no_fault, canonical_text_is_read, program_of_a_text_is_written};
+pub use printing::{print, print_program};
 
 #[cfg(test)]
 mod tests;

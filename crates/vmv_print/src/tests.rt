@@ -1,8 +1,6 @@
-mod pair;
-
-use crate::print_program;
-use crate::tests::pair::{base, revision};
+use crate::{print, print_program};
 use std::test::Fail;
+use vmv_source::parse;
 use vmv_text::read_program;
 
 /// Canonical texts.
@@ -26,15 +24,6 @@ const REVISION: &str =
     "outside stock(1);\noutside price(1);\noutside clock(0);\nhelper per_unit(total, count) {\n  var u;\n  u = total / count;\n  return u;\n}\nentry quote(count: 1..100) {\n  var p, t, u;\n  p = price(count);\n  assert p >= 1;\n  assert p <= 1000000;\n  t = p * count;\n  t = t + 5;\n  u = per_unit(t, count);\n  return u;\n}\nentry reserve(wanted: 0..50) {\n  var s, left;\n  s = stock(wanted);\n  if s >= wanted {\n    left = s - wanted;\n    assert left >= 0;\n  }\n  return left;\n}\nentry age() {\n  var now, d;\n  now = clock();\n  d = 1000 / now;\n  return d;\n}\n";
 
 #[test]
-fn prints_a_base_and_its_revision(rt: HostRuntime) -> Result<(), Fail> {
-    let text = print_program(rt.alloc(), &base(rt.alloc())?)?;
-    assert_eq!(rt; text.bytes(), BASE.as_bytes());
-    let text = print_program(rt.alloc(), &revision(rt.alloc())?)?;
-    assert_eq!(rt; text.bytes(), REVISION.as_bytes());
-    Ok(())
-}
-
-#[test]
 fn prints_what_it_reads(rt: HostRuntime) -> Result<(), Fail> {
     for text in TEXTS {
         let program = read_program(rt.alloc(), text.as_bytes())?;
@@ -45,10 +34,13 @@ fn prints_what_it_reads(rt: HostRuntime) -> Result<(), Fail> {
 }
 
 #[test]
-fn prints_the_pair_that_it_reads(rt: HostRuntime) -> Result<(), Fail> {
+fn prints_a_base_and_its_revision(rt: HostRuntime) -> Result<(), Fail> {
     for text in [BASE, REVISION] {
-        let program = read_program(rt.alloc(), text.as_bytes())?;
-        let printed = print_program(rt.alloc(), &program)?;
+        let snapshot = parse(rt.alloc(), text.as_bytes())?;
+        let printed = print(rt.alloc(), &snapshot)?;
+        assert_eq!(rt; printed.bytes(), text.as_bytes());
+        let again = parse(rt.alloc(), printed.bytes())?;
+        let printed = print(rt.alloc(), &again)?;
         assert_eq!(rt; printed.bytes(), text.as_bytes());
     }
     Ok(())

@@ -1,7 +1,6 @@
 -- The place at which the reading of a program stopped is that of the text's fault.
-use Rattle.std.proofs.Common.{◌≡◌, ℕ, zero, suc, ◌+◌, ◌-◌, ◌<◌, ◌≤◌, true, false, List, [], ◌∷◌, ◌++◌, Option, Some, None, Result, Ok, Err, length, take, drop, refl, sym, ◌∙◌, ap, subst, add-one, append_assoc, arith, length-drop}
+use Rattle.std.proofs.Common.{◌≡◌, ℕ, zero, suc, ◌+◌, ◌-◌, ◌<◌, ◌≤◌, true, false, List, [], ◌∷◌, ◌++◌, Option, Some, None, length, take, drop, refl, sym, ◌∙◌, ap, subst, add-one, append_assoc, arith, length-drop}
 use Rattle.std.specs.Option.{is_some}
-use Rattle.std.specs.Result.{is_err, MatchResult}
 use Rattle.std.specs.Str.{IsUtf8}
 use Rattle.vmv_tree.specs.Tree.{Item}
 use Rattle.vmv_text.specs.declared.token.Token.{Token}
@@ -10,9 +9,7 @@ use Rattle.vmv_text.specs.declared.fault.ReadFault.TheVariants.{TooLong, NotUtf8
 use Rattle.vmv_text.specs.Tokens.{Placed, after_gap, token_at, token_and, tokens_in, placed_tokens, tokens_of, tokens}
 use Rattle.vmv_text.specs.Grammar.{IsProgram, IsText}
 use Rattle.vmv_text.specs.Faults.{Begins, FaultAt, line_after, column_after, left_from, HasFault, IsPlace, IsReadFault}
-use Rattle.vmv_text.specs.First.{is_first, IsFirst}
 use Rattle.vmv_text.specs.Reading.{Meets, ProgramStops}
-use Rattle.vmv_text.proofs.OneTree.{text_once}
 use Rattle.vmv_text.proofs.Steps.{meets_same}
 use Rattle.vmv_text.proofs.Unrolled.{length-after_gap}
 
@@ -104,27 +101,9 @@ read_fault (Syntax line column) text old new left e s l short utf8 p =
     (short, utf8, has_fault text old new line column e s q.0 q.1)
 read_fault Memory text old new left e s l short utf8 p = absurd p
 
--- where the reading stopped, no program has the text
-pub none_has : (text : List ℕ) (old new : List Placed) → old ≡ placed_tokens text → ProgramStops old new → (items : List Item) → IsText text items → ⊥
-unfolding tokens
-none_has text old new e s items h =
-    s.shut items (tokens_of new) (meets_same new) (subst (λ t. IsProgram items t) (ap tokens_of (sym e ∙ s.place) ∙ tokens_of-append s.used new) h.grammar)
-
 pub text_made : (text : List ℕ) (old : List Placed) (items : List Item) → old ≡ placed_tokens text → IsUtf8 text → IsProgram items (tokens_of old) → IsText text items
 unfolding tokens
 text_made text old items e utf8 h = record { utf8 = utf8; grammar = subst (λ t. IsProgram items (tokens_of t)) e h }
-
--- the one program of a text isn't of the first class
-pub text_not_first : (bytes : List ℕ) (p : List Item) → IsText bytes p → is_first p ≡ false → (q : List Item) → IsText bytes q → IsFirst q → ⊥
-text_not_first bytes p h other q k first =
-    let same = text_once bytes p q h k in
-    let yes : is_first p ≡ true = ap is_first same ∙ first in
-    cc (other, yes)
-
--- what an answer that isn't an error says
-pub ok_says : {A E U : Type 0} (r : Result A E) (P : A → Type 0) (Q : E → Type 0) → is_err r ≡ false → MatchResult r (λ x. P x × U) Q → U
-ok_says (Ok x) P Q e h = h.1
-ok_says (Err x) P Q e h = absurd (cc e)
 
 pub none_first : (o : Option Token) → is_some o ≡ false → o ≡ None
 none_first None h = refl

@@ -1,9 +1,7 @@
 -- The longest front of a text that is UTF-8 is one.
-use Rattle.std.proofs.Common.{◌≡◌, ◌≤◌, ℕ, ◌<◌, List, length, take, Result, Ok, Err, ap, sym, subst, arith}
+use Rattle.std.proofs.Common.{◌≡◌, ℕ, ◌<◌, List, length, take, sym, subst, arith}
 use Rattle.std.proofs.Math.Seq.{take-length}
 use Rattle.std.specs.Str.{IsUtf8, IsValidUpTo}
-use Rattle.vmv_text.specs.declared.fault.ReadFault.{ReadFault}
-use Rattle.vmv_text.specs.declared.fault.ReadFault.TheVariants.{NotUtf8}
 
 pub valid_once : (bytes : List ℕ) (n m : ℕ) → IsValidUpTo bytes n → IsValidUpTo bytes m → n ≡ m
 valid_once bytes n m h k = by_order (λ less. h.longest m less k.front) (λ less. k.longest n less h.front)

@@ -47,9 +47,12 @@ are_distinct (x ∷ names) = not (is_among names x) && are_distinct names
 abbrev pub is_ordered : Param → Bool
 is_ordered p = int_le p.lo p.hi
 
+abbrev pub param_names : List Param → List Name
+param_names params = map (λ p. p.name) params
+
 -- the names that an entry declares: its parameters, then its variables
 abbrev pub declared_names : List Param → List Name → List Name
-declared_names params vars = map (λ p. p.name) params ++ vars
+declared_names params vars = param_names params ++ vars
 
 -- at most 16 names, all distinct, no empty range, and in the body first statements alone and a declared result
 abbrev pub is_first_entry : List Param → Body → Bool

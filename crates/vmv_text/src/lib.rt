@@ -8,7 +8,6 @@ mod block;
 mod class;
 mod cursor;
 mod fault;
-mod first;
 mod item;
 mod laws;
 mod lexer;
@@ -20,8 +19,10 @@ mod statement;
 mod symbol;
 mod token;
 
-pub use fault::{FirstFault, ReadFault};
-pub use first::read_first;
-pub use laws::{no_program_at_fault, one_fault, one_program};
-pub use mention::{mention_place, names_are_mentions};
-pub use read::read_program;
+pub use class::is_first;
+pub use fault::ReadFault;
+pub use laws::{
+    mention_has_its_name, names_are_mentions, no_program_at_fault, one_fault, one_program,
+};
+pub use mention::mention_place;
+pub use read::{MOST_BYTES, read_program};

@@ -1,8 +1,6 @@
-ghost use Rattle.std.specs.Prelude.{◌≡◌, ◌≤◌, ℕ, List, length, IfSome, IfNone};
-ghost use Rattle.vmv_tree.specs.Tree.{Item};
+ghost use Rattle.std.specs.Prelude.{◌≤◌, length, IfSome, IfNone};
 ghost use Rattle.vmv_text.specs.Tokens.{tokens};
-ghost use Rattle.vmv_text.specs.Grammar.{IsText};
-ghost use Rattle.vmv_text.specs.Mentioned.{name_count, program_mentions, HasMention, AtName};
+ghost use Rattle.vmv_text.specs.Mentioned.{name_count, HasMention, AtName};
 
 use crate::cursor::Cursor;
 use crate::operand::name_of;
@@ -52,11 +50,6 @@ pub fn mention_place(text: &[u8], mention: u32) -> Option<(u32, u32)>
     let front = &text[..text.len() - cursor.left()];
     Some((line(front), column(front)))
 }
-
-/// A text of a program has a name for each of its mentions.
-pub fn names_are_mentions()
-    ensures { (bytes : List ℕ) (p : List Item) → IsText bytes p → name_count (tokens bytes) ≡ program_mentions p }
-{}
 
 #[cfg(test)]
 mod tests;

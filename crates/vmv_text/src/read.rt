@@ -13,7 +13,7 @@ use std::str;
 use vmv_tree::Program;
 
 /// The most bytes of a text.
-const MOST_BYTES: usize = 1_048_576;
+pub const MOST_BYTES: usize = 1_048_576;
 
 /// The column behind these bytes.
 pub(crate) fn column(front: &[u8]) -> u32

@@ -1,58 +1,10 @@
+mod limits;
+mod pair;
+mod tables;
+
 use crate::{TextFault, parse};
 use std::test::Fail;
 use vmv_snapshot::ProcId;
-use vmv_tree::Defect;
-
-const CUT: &[u8] = b"outside read(0);\nentry e() { var q; q = re";
-
-const UNKNOWN: &[u8] = b"entry e() { return x; }";
-
-const TWICE: &[u8] = b"entry e() {\n  var a, a;\n  return 0;\n}";
-
-const FEW: &[u8] = b"outside f(1);\nentry e() { var x; x = f(); return x; }";
-
-const ASSIGNED: &[u8] = b"entry e() { repeat i to 1 cap 1 { i = 0; } return 0; }";
-
-const NO_RANGE: &[u8] = b"entry e(n: 2..1) { return 0; }";
-
-const SEVENTEEN: &[u8] =
-    b"entry e() { var v1, v2, v3, v4, v5, v6, v7, v8, v9, v10, v11, v12, v13, v14, v15, v16, v17; return 0; }";
-
-fn defect(line: u32, column: u32, defect: Defect) -> TextFault {
-    TextFault::Defect {
-        line,
-        column,
-        defect,
-    }
-}
-
-#[test]
-fn faults(rt: HostRuntime) -> Result<(), Fail> {
-    let limit = Defect::Limit {
-        which: 5,
-        found: 17,
-        most: 16,
-    };
-    for (text, fault) in [
-        (b"\xff".as_slice(), TextFault::NotUtf8 { at: 0 }),
-        (
-            CUT,
-            TextFault::Syntax {
-                line: 2,
-                column: 26,
-            },
-        ),
-        (UNKNOWN, defect(1, 20, Defect::UnknownName)),
-        (TWICE, defect(2, 10, Defect::Repeated)),
-        (FEW, defect(2, 24, Defect::ArityWrong)),
-        (ASSIGNED, defect(1, 35, Defect::IndexAssigned)),
-        (NO_RANGE, defect(1, 9, Defect::RangeEmpty)),
-        (SEVENTEEN, defect(1, 7, limit)),
-    ] {
-        assert_eq!(rt; parse(rt.alloc(), text).err(), Some(fault));
-    }
-    Ok(())
-}
 
 const SHOP: &[u8] = b"outside stock(1);
 helper least(a, b) {
@@ -70,6 +22,12 @@ entry take(wanted: 0..50) {
   return left;
 }
 ";
+
+#[test]
+fn tells_what_is_not_utf8(rt: HostRuntime) {
+    let found = parse(rt.alloc(), b"entry e() { return x; } // \xc3(").err();
+    assert_eq!(rt; found, Some(TextFault::NotUtf8 { at: 27 }));
+}
 
 #[test]
 fn a_shop(rt: HostRuntime) -> Result<(), Fail> {

@@ -1,6 +1,7 @@
 use super::read_program;
 use crate::fault::ReadFault;
 use std::test::Fail;
+use vmv_tree::{Item, Op, Operand, Rel, Stmt};
 
 /// Texts with a syntax fault, and its line and column.
 const FAULTS: [(&str, u32, u32); 43] = [
@@ -127,5 +128,45 @@ fn tells_what_is_too_long(rt: HostRuntime) -> Result<(), Fail> {
     text.push(0xff)?;
     let long = read_program(rt.alloc(), text.as_slice());
     assert!(rt; matches!(long, Err(ReadFault::TooLong { found: 1_048_577 })));
+    Ok(())
+}
+
+#[test]
+fn reads_the_tree(rt: HostRuntime) -> Result<(), Fail> {
+    let text = b"entry e(n: 1..9) { var x; x = n * 2; assert x <= -18; return x; }";
+    let program = read_program(rt.alloc(), text)?;
+    let [Item::Entry { name, params, body }] = program.items.as_slice() else {
+        return Err(Fail::from("no entry"));
+    };
+    assert_eq!(rt; name.bytes(), b"e".as_slice());
+    let [param] = params.as_slice() else {
+        return Err(Fail::from("no parameter"));
+    };
+    assert_eq!(rt; (param.lo, param.hi), (1, 9));
+    let [var] = body.vars.as_slice() else {
+        return Err(Fail::from("no variable"));
+    };
+    let [
+        Stmt::Arith {
+            to,
+            op,
+            left,
+            right,
+        },
+        Stmt::Assert { test },
+    ] = body.block.as_slice()
+    else {
+        return Err(Fail::from("other statements"));
+    };
+    assert_eq!(rt; (*to, *op), (*var, Op::Mul));
+    assert_eq!(rt;
+        (*left, *right),
+        (Operand::Var(param.name), Operand::Lit(2))
+    );
+    assert_eq!(rt;
+        (test.left, test.rel, test.right),
+        (Operand::Var(*var), Rel::AtMost, Operand::Lit(-18))
+    );
+    assert_eq!(rt; body.result, Operand::Var(*var));
     Ok(())
 }

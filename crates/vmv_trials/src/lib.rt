@@ -1,0 +1,7 @@
+//! Tests by texts of what stands on several crates.
+#![tactic(auto)]
+
+#[cfg(test)]
+mod runs;
+#[cfg(test)]
+mod tables;
