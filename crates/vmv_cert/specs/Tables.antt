@@ -1,5 +1,5 @@
 -- Accepted tables, and what they show.
-use Rattle.std.specs.Prelude.{◌≡◌, ◌⊎◌, ℕ, ◌+◌, ◌<◌, ◌≤◌, ℤ, ◌≤ℤ◌, neg_ℤ, Some, List, [], ◌∷◌, ◌++◌, length, map, slice_get}
+use Rattle.std.specs.Prelude.{◌≡◌, ◌⊎◌, ℕ, ◌+◌, ◌<◌, ◌≤◌, ℤ, pos, ◌≤ℤ◌, neg_ℤ, Some, List, [], ◌∷◌, ◌++◌, length, map, slice_get}
 use Rattle.std.specs.List.{All, AllZip, Contains}
 use Rattle.vmv_tree.specs.declared.ends.NameEnds.{NameEnds}
 use Rattle.vmv_tree.specs.declared.site.NamedSite.{NamedSite}
@@ -110,6 +110,7 @@ Box = List (ℤ × ℤ)
 pub record IsBoxState (box : Box) (z : Zone) : Type 0 where
   pub vars : vars_of z ≡ length box
   pub not_bottom : NotBottom z
+  pub origin : bound_of z 0 0 ≡ pos 0
   pub high : (i : ℕ) (range : ℤ × ℤ) → slice_get box i ≡ Some range → bound_of z (i + 1) 0 ≡ range.1
   pub low : (i : ℕ) (range : ℤ × ℤ) → slice_get box i ≡ Some range → bound_of z 0 (i + 1) ≡ neg_ℤ range.0
   pub others : (i j : ℕ) → 1 ≤ i → i ≤ length box → 1 ≤ j → j ≤ length box → bound_of z i j ≡ top_bound i j

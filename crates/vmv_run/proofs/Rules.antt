@@ -107,7 +107,7 @@ put_past false P Q e q = q
 
 pub operand_word : (scope : Scope) (frame : List ℤ) (o : Operand) (code : CodeOperand) → AreOnce scope.slots → length scope.slots ≤ length frame → ResolvesOperand scope o code →
     value (valuation scope.slots frame) o ≡ word_in frame code
-operand_word scope frame (Lit word) (Lit same) once few r = sym r
+operand_word scope frame (Lit word) (Lit same) once few r = sym r.0
 operand_word scope frame (Var name) (Var slot) once few r =
     valuation-get scope.slots frame slot.0 name (pos 0) once r (omega (arith, slice_get_within scope.slots slot.0 (Some name) r))
 operand_word scope frame (Lit word) (Var slot) once few r = absurd r

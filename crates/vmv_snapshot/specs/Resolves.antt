@@ -6,6 +6,7 @@ use Rattle.vmv_tree.specs.declared.tree.Operand.{Operand}
 use Rattle.vmv_tree.specs.declared.tree.Operand.TheVariants.{Lit, Var}
 use Rattle.vmv_tree.specs.declared.tree.Test.{Test}
 use Rattle.vmv_tree.specs.Tree.{Stmt, copy, compute, call, assert, choose, repeat, Block, [], ◌⨾◌, Body, Item, outside, helper, entry}
+use Rattle.vmv_tree.specs.Words.{IsWord}
 use Rattle.vmv_tree.specs.Run.{sites, block_sites}
 use Rattle.vmv_tree.specs.Limits.{block_indexes}
 use Rattle.vmv_snapshot.specs.declared.code.Slot.{Slot}
@@ -45,9 +46,9 @@ IsSlot scope name slot = slice_get scope.slots slot.0 ≡ Some (Some name)
 abbrev pub IsHelper : Scope → Name → ProcId → Type 0
 IsHelper scope name proc = slice_get scope.helpers proc.0 ≡ Some (Some name)
 
--- a literal stands for itself, and a variable for its slot
+-- a literal, which is a word, stands for itself, and a variable for its slot
 abbrev pub ResolvesOperand : Scope → Operand → CodeOperand → Type 0
-ResolvesOperand scope (Lit word) (Lit same) = same ≡ word
+ResolvesOperand scope (Lit word) (Lit same) = (same ≡ word) × IsWord word
 ResolvesOperand scope (Var name) (Var slot) = IsSlot scope name slot
 ResolvesOperand scope (Lit word) (Var slot) = ⊥
 ResolvesOperand scope (Var name) (Lit word) = ⊥

@@ -42,7 +42,7 @@ operand_inside vars scope (Var x) (Lit u) are r = absurd r
 operand_inside vars scope (Var x) (Var n) are r = named_inside vars scope.slots n.0 x are r
 
 pub operand_value : (scope : Scope) (o : Operand) (c : CodeOperand) (v : Valuation) (p : ℕ → ℤ) → ResolvesOperand scope o c → Agrees scope.slots v p → value_at p (zone_operand c) ≡ value v o
-operand_value scope (Lit w) (Lit u) v p r agrees = r
+operand_value scope (Lit w) (Lit u) v p r agrees = r.0
 operand_value scope (Lit w) (Var n) v p r agrees = absurd r
 operand_value scope (Var x) (Lit u) v p r agrees = absurd r
 operand_value scope (Var x) (Var n) v p r agrees = agrees.named n.0 x r
