@@ -1,0 +1,11 @@
+pub mod Lists
+pub mod Joins
+pub mod Empty
+pub mod Greatest
+pub mod Kept
+pub mod Conds
+pub mod Tables
+pub mod Freed
+pub mod Dropping
+pub mod Starts
+pub mod Operands
