@@ -1,0 +1,9 @@
+pub mod Lists
+pub mod Called
+pub mod Among
+pub mod Placed
+pub mod Entries
+pub mod Ends
+pub mod Held
+pub mod Ordered
+pub mod Rounding
