@@ -1,0 +1,6 @@
+pub mod Wants
+pub mod Needs
+pub mod Back
+pub mod Leads
+pub mod Demands
+pub mod Ends
