@@ -1,0 +1,13 @@
+pub mod Zips
+pub mod Moving
+pub mod Growing
+pub mod Rows
+pub mod Codes
+pub mod Under
+pub mod Sums
+pub mod Rooms
+pub mod Ranks
+pub mod Falling
+pub mod Settling
+pub mod Calls
+pub mod Bodies

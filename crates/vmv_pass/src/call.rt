@@ -1,0 +1,53 @@
+ghost use Rattle.std.specs.Prelude.{◌≡◌, ◌<◌, ◌≤◌, ℕ, Bool, List, length, map, get_or};
+ghost use Rattle.vmv_snapshot.specs.declared.code.ProcId.{ProcId};
+ghost use Rattle.vmv_snapshot.specs.Code.{help};
+ghost use Rattle.vmv_zone.specs.declared.zone.Zone.{Zone};
+ghost use Rattle.vmv_zone.specs.Zone.{vars_of};
+ghost use Rattle.vmv_step.specs.Zones.{zone_operand, AreInside, IsVariable};
+ghost use Rattle.vmv_pass.specs.Moves.{given_of, lists, Moves};
+
+use crate::keep::take_input;
+use crate::place::Place;
+use vmv_snapshot::{CodeOperand, ProcId, Slot};
+use vmv_step::pass;
+use vmv_zone::{Zone, ZoneOperand, ZoneValue};
+
+/// The operand with a slot as the variable of its number.
+pub(crate) fn zone_operand(operand: CodeOperand) -> ZoneOperand
+    ensures { result ≡ zone_operand operand }
+{
+    match operand {
+        CodeOperand::Lit(word) => ZoneOperand::Lit(word),
+        CodeOperand::Var(slot) => ZoneOperand::Var(slot.0),
+    }
+}
+
+/// Passes over the call of a helper, which is the `c`-th: raises its input, and goes on with what is stored as its result.
+pub(crate) fn pass_call(
+    at: &Place<'_>,
+    to: Slot,
+    args: &[CodeOperand],
+    c: usize,
+    inputs: &mut [Zone],
+    raised: &mut bool,
+    zone: Zone,
+) -> Zone
+    requires few { vars_of zone ≤ 16 }
+    requires to { IsVariable (vars_of zone) to }
+    requires count { length args.now ≤ 16 }
+    requires inside { AreInside (vars_of zone) args.now }
+    requires input { c < length inputs.old }
+    requires size { (d : Zone) → vars_of (get_or inputs.old c d) ≡ length args.now }
+    requires results { length at.now.results.now ≡ length inputs.old }
+    ensures moves { (k : ℕ) (callee : ProcId) (keeps : List Zone) (flags : List Bool) (steps : ℕ) → Moves (given_of at.now) k c (help to callee args.now) zone (lists keeps inputs.old flags raised.old steps) result (lists keeps inputs.new flags raised.new steps) }
+    ensures vars { vars_of result ≡ vars_of zone }
+    ensures sizes { map vars_of inputs.new ≡ map vars_of inputs.old }
+{
+    if zone.is_bottom() {
+        return zone;
+    }
+    let passed = pass(args, &zone);
+    take_input(c, &passed, inputs, raised);
+    let cond = at.results[c];
+    zone.assign(to.0, ZoneValue::Within(cond))
+}
