@@ -1,0 +1,160 @@
+-- From an instance to those that it calls, one after another.
+use Rattle.std.proofs.Common.{◌≡◌, ⊎_elim, ℕ, zero, suc, ◌+◌, ◌-◌, ◌<◌, ◌≤◌, Bool, true, false, Some, List, [], ◌∷◌, length, slice_get, get_or, IsTrue, IsFalse, not, refl, sym, ap, subst, arith, ◌∙◌}
+use Rattle.std.proofs.lemmas.Slice.Zip.{AllZip-long}
+use Rattle.std.proofs.lemmas.Bool.{cases_lt}
+use Rattle.std.specs.List.{Contains}
+use Rattle.std.specs.Prelude.{◌↔◌, map}
+use Rattle.vmv_tree.specs.declared.name.Name.{Name}
+use Rattle.vmv_tree.specs.declared.site.NamedSite.{NamedSite}
+use Rattle.vmv_tree.specs.Run.{name_of}
+use Rattle.vmv_cond.specs.declared.cond.Cond.{Cond}
+use Rattle.vmv_snapshot.specs.Resolution.{Resolution, procs_of}
+use Rattle.vmv_cert.specs.declared.row.Reach.{Reach}
+use Rattle.vmv_cert.specs.Tables.{IsSiteOf, AreSitesOf}
+use Rattle.vmv_snapshot.specs.declared.code.ProcId.{ProcId}
+use Rattle.vmv_snapshot.specs.View.{code_of}
+use Rattle.vmv_zone.specs.declared.zone.Zone.{Zone}
+use Rattle.vmv_zone.specs.Zone.{vars_of, IsBottom, NotBottom, IsNormal}
+use Rattle.vmv_zone.proofs.Equal.{clash}
+use Rattle.vmv_check.specs.Walker.{HasParams}
+use Rattle.vmv_check.proofs.Lists.{some_same, within, item_at, at_place}
+use Rattle.vmv_pass.specs.Callees.{block_callees}
+use Rattle.vmv_forward.specs.Path.{Path}
+use Rattle.vmv_forward.specs.Rounds.{Quest, AreKept, HasInput, HasResult}
+use Rattle.vmv_forward.specs.Rows.{IsListed, IsReached, IsReachOf, IsRowOf, AreListedSites}
+use Rattle.vmv_forward.proofs.Instances.{known_at, call_of, input_once}
+
+pub got : {X : Type 0} (xs : List X) (n : ℕ) (d : X) → n < length xs → slice_get xs n ≡ Some (get_or xs n d)
+got [] n d h = absurd (omega arith)
+got (x ∷ xs) zero d h = refl
+got (x ∷ xs) (suc n) d h = got xs n d (omega (arith, h))
+
+-- there is an input for each call
+pub as_many : (q : Quest) (xs : List Path) (j : ℕ) (path : Path) → AreKept q xs → 1 ≤ j → slice_get xs j ≡ Some path → length path.callees ≡ length path.inputs
+as_many q xs j path kept one at =
+    let k = known_at q xs j path kept one at in
+    let Fit = λ (callee : ProcId). λ (z : Zone). HasParams q.program callee.0 (vars_of z) × IsNormal z in
+    let long : length path.inputs ≡ length (block_callees (code_of k.1).block) = AllZip-long Fit (block_callees (code_of k.1).block) path.inputs k.2.fits.inputs in
+    k.2.count ∙ sym long
+
+-- the c-th instance that is called
+pub record Next (xs : List Path) (j : ℕ) (path : Path) (c next : ℕ) : Type 0 where
+  pub is : slice_get path.callees c ≡ Some next
+  pub later : j < next
+  pub one : 1 ≤ next
+  pub inside : next < length xs
+  pub input : c < length path.inputs
+  pub to : Path
+  pub there : slice_get xs next ≡ Some to
+  pub caller_is : to.caller ≡ j
+  pub place_is : to.place ≡ c
+
+pub next_of : (q : Quest) (xs : List Path) (j : ℕ) (path : Path) (items : List ℕ) (c : ℕ) → AreKept q xs → 1 ≤ j → slice_get xs j ≡ Some path → items ≡ path.callees → c < length items → Next xs j path c (get_or items c 0)
+next_of q xs j path items c kept one at same h =
+    let next = get_or items c 0 in
+    let is : slice_get path.callees c ≡ Some next = subst (λ (ns : List ℕ). slice_get ns c ≡ Some next) same (got items c 0 h) in
+    let inside = within path.callees c next is in
+    let many = as_many q xs j path kept one at in
+    let input : c < length path.inputs = omega arith in
+    let k = known_at q xs j path kept one at in
+    let z = item_at path.inputs c input in
+    let call = call_of q xs j path k.0 k.1 c next z.0 at k.2 is z.1 in
+    let p = kept.grown.placed next call.to call.one call.to_is in
+    let before = p.before in
+    let caller = call.caller_is in
+    record { is = is; later = omega arith; one = call.one; inside = within xs next call.to call.to_is; input = input; to = call.to; there = call.to_is; caller_is = call.caller_is; place_is = call.place_is }
+
+-- the instance at a number that is read
+pub read : (xs : List Path) (j : ℕ) (path : Path) → j < length xs → path ≡ get_or xs j path → slice_get xs j ≡ Some path
+read xs j path h is = at_place xs j path h is
+
+-- what is listed at an instance that is called is listed at its caller
+pub listed_on : (xs : List Path) (j : ℕ) (path : Path) (c next : ℕ) (input : Zone) (proc index : ℕ) → slice_get xs j ≡ Some path → slice_get path.callees c ≡ Some next → slice_get path.inputs c ≡ Some input → NotBottom input → IsListed xs next proc index →
+    IsListed xs j proc index
+listed_on xs j path c next input proc index at to there up l = (c ∷ l.0, l.1, (path, next, input, at, to, there, up, l.2), l.3)
+
+-- what is listed at none of the first c instances that are called
+abbrev pub NoneListed : List Path → Path → ℕ → ℕ → ℕ → Type 0
+NoneListed xs path proc index c = (d next : ℕ) (input : Zone) → d < c → slice_get path.callees d ≡ Some next → slice_get path.inputs d ≡ Some input → NotBottom input → IsListed xs next proc index → ⊥
+
+pub none_first : (xs : List Path) (path : Path) (proc index : ℕ) → NoneListed xs path proc index 0
+none_first xs path proc index d next input h to there up l = absurd (omega arith)
+
+pub none_more : (xs : List Path) (path : Path) (proc index c : ℕ) → NoneListed xs path proc index c → ((next : ℕ) (input : Zone) → slice_get path.callees c ≡ Some next → slice_get path.inputs c ≡ Some input → NotBottom input → IsListed xs next proc index → ⊥) →
+    NoneListed xs path proc index (c + 1)
+none_more xs path proc index c none here d next input h to there up l =
+    ⊎_elim (λ (e : d < c). none d next input e to there up l)
+    (λ (e : c ≤ d). (let same : d ≡ c = omega arith in here next input (subst (λ k. slice_get path.callees k ≡ Some next) same to) (subst (λ k. slice_get path.inputs k ≡ Some input) same there) up l)) (cases_lt d c)
+
+-- the c-th isn't reached
+pub here_bottom : (xs : List Path) (path : Path) (proc index c : ℕ) (z : Zone) → slice_get path.inputs c ≡ Some z → IsBottom z → (next : ℕ) (input : Zone) → slice_get path.callees c ≡ Some next → slice_get path.inputs c ≡ Some input → NotBottom input →
+    IsListed xs next proc index → ⊥
+here_bottom xs path proc index c z at none next input to there up l = let same : input ≡ z = some_same (sym there ∙ at) in clash input.bottom (subst IsBottom (sym same) none) up
+
+-- it isn't listed at the c-th
+pub here_unlisted : (xs : List Path) (path : Path) (proc index c n : ℕ) → slice_get path.callees c ≡ Some n → (IsListed xs n proc index → ⊥) → (next : ℕ) (input : Zone) → slice_get path.callees c ≡ Some next → slice_get path.inputs c ≡ Some input →
+    NotBottom input → IsListed xs next proc index → ⊥
+here_unlisted xs path proc index c n at none next input to there up l = none (subst (λ k. IsListed xs k proc index) (some_same (sym to ∙ at)) l)
+
+pub not_listed : (xs : List Path) (j : ℕ) (path : Path) (proc index : ℕ) → slice_get xs j ≡ Some path → ((path.proc.0 ≡ proc) × (1 ≤ index) × (slice_get path.unproved (index - 1) ≡ Some true) → ⊥) → NoneListed xs path proc index (length path.callees) →
+    IsListed xs j proc index → ⊥
+not_listed xs j path proc index at own none ([], k, same, (other, there, proc_is, from, flag)) =
+    let e : other ≡ path = some_same (sym there ∙ (ap (slice_get xs) (sym same) ∙ at)) in
+    own (subst (λ (p : Path). p.proc.0 ≡ proc) e proc_is, from, subst (λ (p : Path). slice_get p.unproved (index - 1) ≡ Some true) e flag)
+not_listed xs j path proc index at own none (place ∷ places, k, (other, next, input, there, to, has, up, leads), f) =
+    let e : other ≡ path = some_same (sym there ∙ at) in
+    let to' = subst (λ (p : Path). slice_get p.callees place ≡ Some next) e to in
+    none place next input (within path.callees place next to') to' (subst (λ (p : Path). slice_get p.inputs place ≡ Some input) e has) up (places, k, leads, f)
+
+pub no_true : {P : Type 0} → IsTrue false → P
+no_true t = absurd (cc)
+
+-- a test that is false tells that its fact isn't so
+pub untold : {P : Type 0} (b : Bool) → b ≡ false → (P → IsTrue b) → P → ⊥
+untold b off tells p = let t = tells p in absurd (cc)
+
+pub untrue : (a b : Bool) → a ≡ false → (IsTrue b → IsTrue a) → IsFalse b
+untrue a true off tells = let t = tells refl in absurd (cc)
+untrue a false off tells = refl
+
+-- what is left of a list is less behind a later element
+pub down_below : (long j next t : ℕ) → j < next → next < long → long - j ≡ t → long - next < t
+down_below long j next t later inside e = omega arith
+
+pub none_all : (xs : List Path) (path : Path) (proc index c : ℕ) (items : List ℕ) → items ≡ path.callees → length items ≤ c → NoneListed xs path proc index c → NoneListed xs path proc index (length path.callees)
+none_all xs path proc index c items same end none d next input h to there up l =
+    let long : length items ≡ length path.callees = ap length same in
+    let few : d < c = omega arith in
+    none d next input few to there up l
+
+-- a state is reached where it isn't Bottom
+pub reached_told : {P : Type 0} (a b : Bool) → (IsTrue a → IsTrue b) × (IsTrue b → IsTrue a) → (IsFalse b → P) → (P → IsFalse b) → (IsTrue (not a) → P) × (P → IsTrue (not a))
+reached_told true true told f g = (λ t. absurd (cc), λ p. absurd (let x = g p in cc))
+reached_told true false told f g = (λ t. absurd (cc), λ p. absurd (let x = told.0 refl in cc))
+reached_told false true told f g = (λ t. absurd (let x = told.1 refl in cc), λ p. refl)
+reached_told false false told f g = (λ t. f refl, λ p. refl)
+
+-- the row that is made for an instance
+pub row_made : (program : Resolution) (xs : List Path) (j : ℕ) (path : Path) (name : Name) (input : Zone) (keeps : List Zone) (reach : Reach) (sites : List NamedSite) (range : Cond) → 1 ≤ j → slice_get xs j ≡ Some path →
+    slice_get (map name_of (procs_of program)) path.proc.0 ≡ Some name → HasInput xs path input → IsReached xs j → keeps ≡ path.keeps → HasResult xs path range → IsReachOf range reach → (found : List NamedSite) → AreListedSites program xs j found → sites ≡ found →
+    IsRowOf program xs j (record { proc = name; input = input; keeps = keeps; result = reach; unproved = sites })
+row_made program xs j path name input keeps reach sites range one at named has reached kept result is found listed same =
+    let e : listed.path ≡ path = some_same (sym listed.path_is ∙ at) in
+    let r : reached.0 ≡ path = some_same (sym reached.2 ∙ at) in
+    let z : reached.1 ≡ input = input_once xs path reached.1 input (subst (λ (p : Path). HasInput xs p reached.1) r reached.3) has in
+    record {
+      one = one;
+      path = path;
+      path_is = at;
+      named = named;
+      input = has;
+      reached = subst NotBottom z reached.4;
+      keeps = kept;
+      range = range;
+      range_is = result;
+      result = is;
+      sites = subst (λ (p : Path). AreSitesOf program p.proc.0 sites) e (subst (λ (xs : List NamedSite). AreSitesOf program listed.path.proc.0 xs) (sym same) listed.sites);
+      listed = λ site.
+          subst (λ (p : Path). Contains sites site ↔ ((m : ℕ) × IsSiteOf program p.proc.0 m site × IsListed xs j m site.index)) e
+          (subst (λ (ss : List NamedSite). Contains ss site ↔ ((m : ℕ) × IsSiteOf program listed.path.proc.0 m site × IsListed xs j m site.index)) (sym same) (listed.listed site));
+    }

@@ -1,0 +1,7 @@
+pub mod Least
+pub mod Instances
+pub mod Path
+pub mod Paths
+pub mod Rounds
+pub mod Rows
+pub mod Grow

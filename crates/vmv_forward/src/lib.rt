@@ -1,0 +1,25 @@
+//! The least accepted table of an entry and a box.
+//!
+//! One instance of a procedure stands for each path of calls that leads from the entry to it. The states that are kept for
+//! the instances start at Bottom and are raised in rounds, until a round raises nothing. What they are then is the least
+//! accepted table.
+#![tactic(auto)]
+
+mod boxes;
+mod callees;
+mod grow;
+mod instance;
+mod laws;
+mod lay;
+mod loops;
+mod rounds;
+mod row;
+mod table;
+
+pub use laws::{
+    least_tables_are_unique, least_tables_decide_death, least_tables_decide_proof,
+    least_tables_have_rows,
+};
+pub use table::least;
+pub use vmv_pass::Steps;
+pub use vmv_thresholds::Thresholds;

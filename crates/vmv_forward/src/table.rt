@@ -1,0 +1,97 @@
+ghost use Rattle.std.specs.Prelude.{◌≡◌, ◌<◌, ◌≤◌, ◌+◌, ◌*◌, ℕ, List, [], length, IfOk, OnOk};
+ghost use Rattle.vmv_tree.specs.declared.ends.NameEnds.{NameEnds};
+ghost use Rattle.vmv_tree.specs.declared.tree.Param.{Param};
+ghost use Rattle.vmv_snapshot.specs.Resolution.{tree_of};
+ghost use Rattle.vmv_assumption.specs.Assumed.{cond_of};
+ghost use Rattle.vmv_cert.specs.Tables.{Accepted, IsRefused, HasThresholds, IsEntry, IsBoxIn};
+ghost use Rattle.vmv_thresholds.specs.Thresholds.{AreThresholds};
+ghost use Rattle.vmv_zone.specs.Zone.{NotBottom};
+ghost use Rattle.vmv_forward.specs.Rounds.{quest_of, AreKept, IsSettled};
+ghost use Rattle.vmv_cert.specs.declared.row.Row.{Row};
+ghost use Rattle.vmv_forward.specs.Rows.{AreRowsOf, Lays};
+ghost use Rattle.vmv_forward.specs.Least.{IsLeastTable};
+ghost use Rattle.vmv_forward.specs.Instances.{instances};
+
+use crate::boxes::box_state;
+use crate::grow::instances_of;
+use crate::instance::Instance;
+use crate::lay::rows_in_order;
+use crate::rounds::{Search, settle};
+use crate::row::all_rows;
+use sqlite_items::Items;
+use std::alloc::{AllocError, Global};
+use std::sync::ledger::Ledger;
+use vmv_assumption::Assumption;
+use vmv_cert::{Row, Table};
+use vmv_check::check_table;
+use vmv_pass::Steps;
+use vmv_snapshot::{ParamBox, ProcId, Snapshot};
+use vmv_thresholds::Thresholds;
+
+/// Looks through a table that can't be refused. It fails where there are more rows than memory holds.
+fn look_through(search: &Search<'_>, table: &Table) -> Result<(), AllocError>
+    requires { (number step : ℕ) → IsRefused search.now.snapshot.now (cond_of search.now.assumed.now) table.now.rows number step → ⊥ }
+    ensures { OnOk result (Accepted search.now.snapshot.now (cond_of search.now.assumed.now) table.now.rows) }
+{
+    if table.rows.len() > u32::MAX as usize {
+        return Err(AllocError);
+    }
+    match check_table(search.snapshot, search.assumed, table) {
+        Ok(()) => Ok(()),
+        Err(_) => unreachable!(),
+    }
+}
+
+/// The rows of the entry and of what it calls, in order. The rows of all instances are looked through first.
+fn table_of(alloc: Global, search: &Search<'_>, instances: &[Instance]) -> Result<Table, AllocError>
+    requires kept { AreKept (quest_of search.now) instances.now }
+    requires settled { (j : ℕ) → 1 ≤ j → IsSettled (quest_of search.now) instances.now j }
+    requires reached { NotBottom search.now.input.now }
+    ensures accepted { IfOk result (λ table. Accepted search.now.snapshot.now (cond_of search.now.assumed.now) table.rows) }
+    ensures whole { IfOk result (λ table. (all : List Row) × AreRowsOf search.now.snapshot.now instances.now all × Accepted search.now.snapshot.now (cond_of search.now.assumed.now) all) }
+    ensures lays { IfOk result (λ table. Lays (length instances.now) search.now.snapshot.now instances.now 1 search.now.input.now [] table.rows) }
+{
+    let all = Table {
+        rows: Items::from_vec(all_rows(alloc, search, instances)?),
+    };
+    look_through(search, &all)?;
+    let table = Table {
+        rows: Items::from_vec(rows_in_order(alloc, search, instances)?),
+    };
+    look_through(search, &table)?;
+    Ok(table)
+}
+
+/// The least accepted table of an entry and a box, with threshold states at its loops. It fails only for want of memory.
+///
+/// The box has a range for each parameter, which isn't empty and lies in the parameter's. The thresholds are those of the
+/// snapshot, the entry and some ends. A step is one raising of the state of one loop on one path of calls.
+pub fn least<L: Ledger>(
+    alloc: Global,
+    snapshot: &Snapshot,
+    entry: ProcId,
+    within: &ParamBox,
+    assumed: &Assumption,
+    thresholds: &Thresholds,
+    steps: &mut Steps<L>,
+) -> Result<Table, AllocError>
+    requires entry { (params : List Param) × IsEntry snapshot.now entry.0 params × IsBoxIn params within.now }
+    requires thresholds { (ends : List NameEnds) × AreThresholds (tree_of snapshot.now) entry.0 ends thresholds.now }
+    ensures accepted { IfOk result (λ table. Accepted snapshot.now (cond_of assumed.now) table.rows) }
+    ensures thresholds { IfOk result (λ table. (ends : List NameEnds) → AreThresholds (tree_of snapshot.now) entry.0 ends thresholds.now → HasThresholds snapshot.now entry.0 ends table.rows) }
+    ensures least { IfOk result (λ table. (ends : List NameEnds) → AreThresholds (tree_of snapshot.now) entry.0 ends thresholds.now → IsLeastTable snapshot.now entry.0 within.now ends (cond_of assumed.now) table.rows) }
+    ensures cost { steps.new ≤ steps.old + instances snapshot.now.codes entry.0 * (289 * (length thresholds.now + 2) + 17) }
+{
+    let _program = snapshot.program();
+    let input = box_state(within).norm();
+    let mut found = instances_of(alloc, snapshot, entry, &input)?;
+    let search = Search {
+        snapshot,
+        entry,
+        input: &input,
+        assumed,
+        thresholds: thresholds.as_slice(),
+    };
+    settle(&search, found.as_mut_slice(), steps);
+    table_of(alloc, &search, found.as_slice())
+}
