@@ -1,0 +1,17 @@
+pub mod Lists
+pub mod Made
+pub mod Kept
+pub mod TableLaws
+pub mod Lower
+pub mod Meeting
+pub mod Turns
+pub mod Once
+pub mod Existing
+pub mod Scopes
+pub mod First
+pub mod Pieces
+pub mod Boxed
+pub mod Fit
+pub mod Deaths
+pub mod Pushed
+pub mod Firsts

@@ -1,0 +1,6 @@
+pub mod Candidates
+pub mod Acts
+pub mod Rounds
+pub mod Vacuous
+pub mod Needed
+pub mod Plan

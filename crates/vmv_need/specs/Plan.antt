@@ -1,0 +1,84 @@
+-- The order of the work, and what single steps of it do. Private contracts alone cite these definitions.
+use Rattle.std.specs.Prelude.{◌≡◌, ◌↔◌, ◌^◌, ◌<◌, ◌≤◌, ℕ, ℤ, true, Bool, IsTrue, Some, Option, List, length, map, take, slice_get}
+use Rattle.std.specs.List.{Contains}
+use Rattle.vmv_tree.specs.declared.ends.NameEnds.{NameEnds}
+use Rattle.vmv_tree.specs.declared.name.Name.{Name}
+use Rattle.vmv_tree.specs.declared.tree.Param.{Param}
+use Rattle.vmv_cond.specs.declared.cond.Cond.{Cond}
+use Rattle.vmv_snapshot.specs.Procs.{outsides, is_entry}
+use Rattle.vmv_snapshot.specs.Resolution.{Resolution, IsResolution, tree_of, procs_of}
+use Rattle.vmv_assumption.specs.Assumed.{Assumed, names_of}
+use Rattle.vmv_cert.specs.declared.row.Row.{Row}
+use Rattle.vmv_cert.specs.Tables.{Accepted, HasThresholds, Box, IsEntry, IsBoxIn}
+use Rattle.vmv_back.specs.Boxes.{AreBoxes}
+use Rattle.vmv_demands.specs.Demands.{AreDemands}
+use Rattle.vmv_thresholds.specs.Thresholds.{AreThresholds}
+use Rattle.vmv_forward.specs.Least.{IsLeastTable}
+use Rattle.vmv_need.specs.declared.subject.Subject.{Subject}
+use Rattle.vmv_need.specs.declared.subject.Scope.{Scope}
+use Rattle.vmv_need.specs.declared.candidate.Candidate.{Candidate}
+use Rattle.vmv_need.specs.declared.cut.Cut.{Cut}
+use Rattle.vmv_need.specs.declared.plan.Plan.{Plan}
+use Rattle.vmv_need.specs.declared.shown.ShownBy.{ShownBy}
+use Rattle.vmv_need.specs.declared.shown.ShownBy.TheVariants.{EmptyName, Doomed}
+use Rattle.vmv_need.specs.Candidates.{entries_from, IsScopeOf, candidates_of, places_of}
+use Rattle.vmv_need.specs.Vacuous.{IsDoomed, IsFirst}
+
+-- those of the entries among the first n procedures
+pub record AreFirst (program : Resolution) (n : ℕ) (subjects : List Subject) : Type 0 where
+  pub entries : map (λ (s : Subject). s.entry.0) subjects ≡ entries_from 0 (take n (map is_entry (procs_of program)))
+  pub boxes : (s : Subject) → Contains subjects s → AreBoxes program s.entry.0 s.boxes
+  pub demands : (s : Subject) → Contains subjects s → AreDemands program s.entry.0 s.demands
+
+-- these are the thresholds of procedure n for these ends, where it is an entry
+abbrev pub AreThresholdsAt : Resolution → List NameEnds → ℕ → Option (List ℤ) → Type 0
+AreThresholdsAt program ends n found =
+    slice_get (map is_entry (procs_of program)) n ≡ Some true → (ts : List ℤ) × (found ≡ Some ts) × AreThresholds (tree_of program) n ends ts
+
+-- the thresholds of each entry, by its number
+pub record HaveThresholds (program : Resolution) (ends : List NameEnds) (list : List (Option (List ℤ))) : Type 0 where
+  pub count : length list ≡ length (procs_of program)
+  pub each : (n : ℕ) (found : Option (List ℤ)) → slice_get list n ≡ Some found → AreThresholdsAt program ends n found
+
+-- the procedure is an entry, and the box lies in its parameters' ranges
+abbrev pub IsEntryWithin : Resolution → ℕ → Box → Type 0
+IsEntryWithin program n box = (params : List Param) × IsEntry program n params × IsBoxIn params box
+
+-- the lists of the plan are those of what is looked at in the program
+pub record IsPlanOf (program : Resolution) (plan : Plan) : Type 0 where
+  pub is_resolution : IsResolution program
+  pub scope : IsScopeOf program plan.scope
+  pub candidates : plan.candidates.items ≡ candidates_of plan.scope
+  pub few : length plan.candidates.items < 2 ^ 32
+  pub places : plan.places.items ≡ places_of plan.scope
+  pub thresholds : HaveThresholds program plan.scope.ends plan.thresholds.items
+
+-- the names that are held are the program's outside names
+pub record IsReady (program : Resolution) (plan : Plan) (held : List (Name × Cond)) : Type 0 where
+  pub planned : IsPlanOf program plan
+  pub names : names_of held ≡ outsides (tree_of program)
+
+-- whether the candidate at this place acts
+abbrev pub IsJudged : (acts : Candidate → Type 0) → List Candidate → ℕ → Bool → Type 0
+IsJudged acts cs place answer = (c : Candidate) → slice_get cs place ≡ Some c → IsTrue answer ↔ acts c
+
+-- whether each of them acts
+pub record AreJudged (acts : Candidate → Type 0) (cs : List Candidate) (answers : List Bool) : Type 0 where
+  pub count : length answers ≡ length cs
+  pub each : (place : ℕ) (answer : Bool) → slice_get answers place ≡ Some answer → IsJudged acts cs place answer
+
+-- no more exclusions are recorded than there are candidates
+abbrev pub HasRoom : Plan → List Cut → Type 0
+HasRoom plan cuts = length cuts ≤ length plan.candidates.items
+
+-- the table is accepted, has threshold states, and is least
+pub record IsTold (program : Resolution) (n : ℕ) (box : Box) (ends : List NameEnds) (assumed : Assumed) (rows : List Row) : Type 0 where
+  pub accepted : Accepted program assumed rows
+  pub thresholds : HasThresholds program n ends rows
+  pub least : IsLeastTable program n box ends assumed rows
+
+-- the first entry and box from which it doesn't return, with its least table
+abbrev pub IsFirstDoomed : Resolution → Scope → Assumed → ShownBy → Type 0
+IsFirstDoomed program scope assumed (EmptyName name) = ⊥
+IsFirstDoomed program scope assumed (Doomed entry within table) =
+    IsFirst (IsDoomed program scope assumed) (places_of scope) (entry, within) × IsLeastTable program entry.0 within scope.ends assumed table.rows
