@@ -1,0 +1,14 @@
+pub mod Open
+pub mod Plan
+pub mod OpenBy
+pub mod Levels
+pub mod Tighten
+pub mod Enough
+pub mod Measure
+pub mod Picks
+pub mod Nearer
+pub mod Kept
+pub mod Tried
+pub mod Probes
+pub mod Failures
+pub mod Found
