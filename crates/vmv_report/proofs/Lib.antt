@@ -1,0 +1,13 @@
+pub mod Writing
+pub mod Naming
+pub mod Placing
+pub mod Gathering
+pub mod Listing
+pub mod Reporting
+pub mod Relating
+pub mod Saying
+pub mod Telling
+pub mod Sufficing
+pub mod Tightening
+pub mod Drawing
+pub mod Regressing

@@ -1,0 +1,118 @@
+-- The order of the work. Private contracts alone cite these definitions.
+use Rattle.std.specs.Prelude.{◌≡◌, ◌≢◌, ◌↔◌, ◌⊎◌, ◌<◌, ◌≤◌, ℕ, Option, Some, None, List, [], ◌∷◌, ◌++◌, length, ⊤}
+use Rattle.std.specs.List.{All, AllPairs, Contains}
+use Rattle.vmv_tree.specs.declared.ends.NameEnds.{NameEnds}
+use Rattle.vmv_tree.specs.declared.site.NamedSite.{NamedSite}
+use Rattle.vmv_tree.specs.declared.tree.Param.{Param}
+use Rattle.vmv_snapshot.specs.Resolution.{Resolution, IsResolution, procs_of}
+use Rattle.vmv_assumption.specs.Whole.{whole}
+use Rattle.vmv_assumption.specs.Assumed.{Assumed, cond_of}
+use Rattle.vmv_cert.specs.declared.row.Row.{Row}
+use Rattle.vmv_cert.specs.Tables.{Box, IsEntry, IsBoxIn, Accepted, HasThresholds, Provable, ranges_of}
+use Rattle.vmv_tree.specs.declared.name.Name.{Name}
+use Rattle.vmv_cond.specs.declared.cond.Cond.{Cond}
+use Rattle.vmv_witness.specs.declared.witness.Witness.{Witness}
+use Rattle.vmv_enough.specs.Enough.{NoneEmpty}
+use Rattle.vmv_enough.specs.Failures.{IsCounterexample}
+use Rattle.vmv_enough.specs.Found.{AreFound}
+use Rattle.vmv_forward.specs.Least.{IsLeastTable}
+use Rattle.vmv_need.specs.declared.shown.ShownBy.{ShownBy}
+use Rattle.vmv_need.specs.declared.shown.ShownBy.TheVariants.{EmptyName, Doomed}
+use Rattle.vmv_report.specs.declared.class.Class.{Class}
+use Rattle.vmv_report.specs.declared.class.Class.TheVariants.{Clean, Hidden, Regression, Alarm}
+use Rattle.vmv_report.specs.declared.row.ReportRow.{ReportRow}
+use Rattle.vmv_report.specs.declared.proving.Judging.{Judging}
+use Rattle.vmv_report.specs.declared.proving.EntrySites.{EntrySites}
+use Rattle.vmv_report.specs.declared.told.Told.{Told}
+use Rattle.vmv_report.specs.Rows.{Place, place_of, IsPlace, IsBefore, Review, IsOfClass, AreRows, AreWitnesses, regression_count}
+
+-- the row's entry and the procedure of its site are procedures of the program
+pub record IsInside (program : Resolution) (row : ReportRow) : Type 0 where
+  pub entry : row.entry.0 < length (procs_of program)
+  pub proc : row.site.proc.0 < length (procs_of program)
+
+abbrev pub AreInside : Resolution → List ReportRow → Type 0
+AreInside program rows = All (IsInside program) rows
+
+-- an entry that doesn't return is a procedure of the program
+abbrev pub IsShownOf : Resolution → ShownBy → Type 0
+IsShownOf program (EmptyName name) = ⊤
+IsShownOf program (Doomed entry within table) = entry.0 < length (procs_of program)
+
+abbrev pub review_of : Judging → Review
+review_of j = record { revision = j.revision.now; ends = j.ends.now; needed = cond_of j.needed.now; enough = j.enough.now }
+
+-- the resolution is one, the first assumption is whole, and under the sufficient conditions each outside name has an answer
+pub record IsReady (j : Judging) : Type 0 where
+  pub is_resolution : IsResolution j.revision.now
+  pub whole : (cond_of j.whole.now) ≡ (λ name. whole)
+  pub nonempty : (held : List (Name × Cond)) → j.enough.now ≡ Some held → NoneEmpty j.revision.now (cond_of held)
+
+-- the procedure of this number is an entry, and the box has its parameters' ranges, none of which is empty
+pub record IsWholeBox (program : Resolution) (n : ℕ) (box : Box) : Type 0 where
+  pub params : List Param
+  pub entry : IsEntry program n params
+  pub ranges : box ≡ ranges_of params
+  pub fits : IsBoxIn params box
+
+-- the table is accepted, has threshold states, and is least
+pub record IsTold (program : Resolution) (n : ℕ) (box : Box) (ends : List NameEnds) (assumed : Assumed) (rows : List Row) : Type 0 where
+  pub accepted : Accepted program assumed rows
+  pub thresholds : HasThresholds program n ends rows
+  pub least : IsLeastTable program n box ends assumed rows
+
+-- the list has the sites that aren't provable for the entry of this number
+abbrev pub AreUnproved : Resolution → ℕ → List NameEnds → Assumed → List NamedSite → Type 0
+AreUnproved program n ends assumed sites = (site : NamedSite) → Provable program n ends assumed site ↔ (Contains sites site → ⊥)
+
+-- what the probes of the entry of this number find under the sufficient conditions, where there are some
+abbrev pub AreFoundBy : Resolution → Option (List (Name × Cond)) → ℕ → List Witness → Type 0
+AreFoundBy revision (Some held) n found = AreFound revision n (cond_of held) found × All (IsCounterexample revision n (cond_of held)) found
+AreFoundBy revision None n found = found ≡ []
+
+-- The one list has the sites that aren't always provable for the entry; of these the other has those that aren't relatively
+-- provable. The runs are those that the probes find, where some site is in both.
+pub record AreSitesFor (review : Review) (n : ℕ) (sites : EntrySites) : Type 0 where
+  pub always : AreUnproved review.revision n review.ends (λ name. whole) sites.always
+  pub relative : (site : NamedSite) → Contains sites.always site → Provable review.revision n review.ends review.needed site ↔ (Contains sites.relative site → ⊥)
+  pub found : (site : NamedSite) → Contains sites.always site → Contains sites.relative site → AreFoundBy review.revision review.enough n sites.found
+
+-- a site that is in both lists
+abbrev pub IsInBoth : EntrySites → NamedSite → Type 0
+IsInBoth sites site = Contains sites.always site × Contains sites.relative site
+
+-- the class that the lists tell; none of a site that is in both
+abbrev pub IsToldClass : EntrySites → NamedSite → Option Class → Type 0
+IsToldClass sites site (Some Clean) = ¬ Contains sites.always site
+IsToldClass sites site (Some Hidden) = Contains sites.always site × (¬ Contains sites.relative site)
+IsToldClass sites site (Some Regression) = ⊥
+IsToldClass sites site (Some Alarm) = ⊥
+IsToldClass sites site None = IsInBoth sites site
+
+-- the run fails at the site, and fewer than 8 rows are regressions of the entry
+abbrev pub IsNextRun : List ReportRow → List Witness → ℕ → NamedSite → Witness → Type 0
+IsNextRun rows found n site w = Contains found w × (w.site ≡ site) × (regression_count n rows < 8)
+
+-- no run fails at the site, or 8 rows are regressions of the entry
+abbrev pub IsNoRun : List ReportRow → List Witness → ℕ → NamedSite → Type 0
+IsNoRun rows found n site = ((w : Witness) → Contains found w → w.site ≢ site) ⊎ (8 ≤ regression_count n rows)
+
+-- one row for each place before this one, in order, each of its class
+pub record AreRowsBefore (review : Review) (bound : Place) (rows : List ReportRow) : Type 0 where
+  pub each : (row : ReportRow) → Contains rows row → IsPlace review.revision (place_of row) × IsBefore (place_of row) bound
+  pub all : (place : Place) → IsPlace review.revision place → IsBefore place bound → (row : ReportRow) × Contains rows row × (place_of row ≡ place)
+  pub in_order : AllPairs (λ a b. IsBefore (place_of a) (place_of b)) rows
+  pub classes : (before after : List ReportRow) (row : ReportRow) → rows ≡ before ++ row ∷ after → IsOfClass review before row row.class
+
+-- these rows, with a run for each regression
+pub record IsToldBefore (review : Review) (bound : Place) (told : Told) : Type 0 where
+  pub rows : AreRowsBefore review bound told.rows
+  pub witnesses : AreWitnesses review told.rows told.witnesses
+
+abbrev pub at : ℕ → ℕ → ℕ → Place
+at entry proc index = record { entry = entry; proc = proc; index = index }
+
+-- these are the rows, with a run for each regression
+pub record AreTold (review : Review) (told : Told) : Type 0 where
+  pub rows : AreRows review told.rows
+  pub witnesses : AreWitnesses review told.rows told.witnesses

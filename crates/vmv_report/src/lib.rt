@@ -1,0 +1,28 @@
+//! Reviews: what is told of a revision by what is necessary for its base to be safe, as a report and as its text.
+#![tactic(auto)]
+
+mod class;
+mod conds;
+mod finding;
+mod judging;
+mod kept;
+mod laws;
+mod proving;
+mod report;
+mod row;
+mod row_texts;
+mod rows;
+mod texts;
+mod told;
+
+pub use class::Class;
+pub use finding::baseline;
+pub use judging::judge;
+pub use kept::Baseline;
+pub use laws::{
+    correct_verdicts_hold, only_correct_reports_say_so, regressing_reports_show_it,
+    vacuous_verdicts_hold,
+};
+pub use report::{Report, Witnesses};
+pub use row::{ReportRow, ReportRows};
+pub use texts::text_of;

@@ -1,0 +1,171 @@
+ghost use Rattle.std.specs.Prelude.{◌≡◌, ◌+◌, ◌<◌, Some, true, map, length, slice_get, IfOk, OnOk};
+ghost use Rattle.vmv_snapshot.specs.Procs.{is_entry};
+ghost use Rattle.vmv_snapshot.specs.Reaches.{Reaches};
+ghost use Rattle.vmv_snapshot.specs.Resolution.{tree_of, procs_of};
+ghost use Rattle.vmv_report.specs.Rows.{named_site, IsPlace, AreRows, AreWitnesses};
+ghost use Rattle.vmv_report.specs.Work.{review_of, IsReady, AreSitesFor, IsInBoth, IsToldBefore, at};
+
+use crate::class::Class;
+use crate::proving::{EntrySites, Judging, class_of, entry_sites};
+use crate::row::ReportRow;
+use crate::told::{Told, copy_run, next_run};
+use sqlite_items::Items;
+use std::alloc::{AllocError, Global};
+use vmv_snapshot::{ProcId, SiteId};
+use vmv_tree::NamedSite;
+
+/// Adds the row of a site that isn't provable in either way: a regression, where a run of its probes fails there.
+fn add_unproved(
+    alloc: Global,
+    told: &mut Told,
+    judging: &Judging<'_>,
+    sites: &EntrySites,
+    entry: ProcId,
+    site: SiteId,
+) -> Result<(), AllocError>
+    requires proc { site.proc.0 < length (procs_of judging.now.revision.now) }
+    requires place { IsPlace judging.now.revision.now (at entry.0 site.proc.0 site.index) }
+    requires sites { AreSitesFor (review_of judging.now) entry.0 sites.now }
+    requires unproved { IsInBoth sites.now (named_site judging.now.revision.now site) }
+    requires before { IsToldBefore (review_of judging.now) (at entry.0 site.proc.0 site.index) told.old }
+    ensures { OnOk result (IsToldBefore (review_of judging.now) (at entry.0 site.proc.0 (site.index + 1)) told.new) }
+{
+    let proc = judging.revision.proc_name(site.proc);
+    let index = site.index;
+    let named = NamedSite { proc, index };
+    match next_run(told.rows.as_slice(), sites.found.as_slice(), entry, &named) {
+        Some(w) => {
+            let run = copy_run(alloc, w)?;
+            let class = Class::Regression;
+            told.witnesses.push(run)?;
+            told.rows.push(ReportRow { entry, site, class })
+        }
+        None => {
+            let class = Class::Alarm;
+            told.rows.push(ReportRow { entry, site, class })
+        }
+    }
+}
+
+/// Adds the row of a site.
+fn add_row(
+    alloc: Global,
+    told: &mut Told,
+    judging: &Judging<'_>,
+    sites: &EntrySites,
+    entry: ProcId,
+    site: SiteId,
+) -> Result<(), AllocError>
+    requires proc { site.proc.0 < length (procs_of judging.now.revision.now) }
+    requires place { IsPlace judging.now.revision.now (at entry.0 site.proc.0 site.index) }
+    requires sites { AreSitesFor (review_of judging.now) entry.0 sites.now }
+    requires before { IsToldBefore (review_of judging.now) (at entry.0 site.proc.0 site.index) told.old }
+    ensures { OnOk result (IsToldBefore (review_of judging.now) (at entry.0 site.proc.0 (site.index + 1)) told.new) }
+{
+    let proc = judging.revision.proc_name(site.proc);
+    let index = site.index;
+    match class_of(sites, &NamedSite { proc, index }) {
+        Some(class) => told.rows.push(ReportRow { entry, site, class }),
+        None => add_unproved(alloc, told, judging, sites, entry, site),
+    }
+}
+
+/// Adds the rows of the sites of a procedure that the entry reaches.
+fn add_sites(
+    alloc: Global,
+    told: &mut Told,
+    judging: &Judging<'_>,
+    sites: &EntrySites,
+    entry: ProcId,
+    proc: ProcId,
+) -> Result<(), AllocError>
+    requires entry { slice_get (map is_entry (procs_of judging.now.revision.now)) entry.0 ≡ Some true }
+    requires proc { proc.0 < length (procs_of judging.now.revision.now) }
+    requires reached { Reaches (tree_of judging.now.revision.now) entry.0 proc.0 }
+    requires sites { AreSitesFor (review_of judging.now) entry.0 sites.now }
+    requires before { IsToldBefore (review_of judging.now) (at entry.0 proc.0 1) told.old }
+    ensures { OnOk result (IsToldBefore (review_of judging.now) (at entry.0 (proc.0 + 1) 1) told.new) }
+{
+    for done in 0..judging.revision.site_count(proc) {
+        let index = done + 1;
+        add_row(alloc, told, judging, sites, entry, SiteId { proc, index })?;
+    }
+    Ok(())
+}
+
+/// Adds the rows of a procedure, where the entry reaches it.
+fn add_proc(
+    alloc: Global,
+    told: &mut Told,
+    judging: &Judging<'_>,
+    sites: &EntrySites,
+    entry: ProcId,
+    number: u16,
+) -> Result<(), AllocError>
+    requires entry { slice_get (map is_entry (procs_of judging.now.revision.now)) entry.0 ≡ Some true }
+    requires number { number < length (procs_of judging.now.revision.now) }
+    requires sites { AreSitesFor (review_of judging.now) entry.0 sites.now }
+    requires before { IsToldBefore (review_of judging.now) (at entry.0 number 1) told.old }
+    ensures { OnOk result (IsToldBefore (review_of judging.now) (at entry.0 (number + 1) 1) told.new) }
+{
+    let proc = ProcId(number);
+    if judging.revision.reaches(entry, proc) {
+        return add_sites(alloc, told, judging, sites, entry, proc);
+    }
+    Ok(())
+}
+
+/// Adds the rows of all procedures that the entry reaches.
+fn add_procs(
+    alloc: Global,
+    told: &mut Told,
+    judging: &Judging<'_>,
+    sites: &EntrySites,
+    entry: ProcId,
+) -> Result<(), AllocError>
+    requires entry { slice_get (map is_entry (procs_of judging.now.revision.now)) entry.0 ≡ Some true }
+    requires sites { AreSitesFor (review_of judging.now) entry.0 sites.now }
+    requires before { IsToldBefore (review_of judging.now) (at entry.0 0 1) told.old }
+    ensures { OnOk result (IsToldBefore (review_of judging.now) (at (entry.0 + 1) 0 1) told.new) }
+{
+    for number in 0..judging.revision.proc_count() {
+        add_proc(alloc, told, judging, sites, entry, number)?;
+    }
+    Ok(())
+}
+
+/// Adds the rows of a procedure that is an entry.
+fn add_entry(
+    alloc: Global,
+    told: &mut Told,
+    judging: &Judging<'_>,
+    number: u16,
+) -> Result<(), AllocError>
+    requires ready { IsReady judging.now }
+    requires number { number < length (procs_of judging.now.revision.now) }
+    requires before { IsToldBefore (review_of judging.now) (at number 0 1) told.old }
+    ensures { OnOk result (IsToldBefore (review_of judging.now) (at (number + 1) 0 1) told.new) }
+{
+    let entry = ProcId(number);
+    if judging.revision.is_entry(entry) {
+        let sites = entry_sites(alloc, judging, entry)?;
+        return add_procs(alloc, told, judging, &sites, entry);
+    }
+    Ok(())
+}
+
+/// The rows of a revision, with a run for each regression.
+pub(crate) fn all_rows(alloc: Global, judging: &Judging<'_>) -> Result<Told, AllocError>
+    requires { IsReady judging.now }
+    ensures rows { IfOk result (λ told. AreRows (review_of judging.now) told.rows) }
+    ensures witnesses { IfOk result (λ told. AreWitnesses (review_of judging.now) told.rows told.witnesses) }
+{
+    let mut told = Told {
+        rows: Items::new(alloc),
+        witnesses: Items::new(alloc),
+    };
+    for number in 0..judging.revision.proc_count() {
+        add_entry(alloc, &mut told, judging, number)?;
+    }
+    Ok(told)
+}
