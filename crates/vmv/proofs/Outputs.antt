@@ -16,7 +16,8 @@ use Rattle.vmv_witness.specs.Text.{IsTextOf}
 use Rattle.vmv.specs.Replays.{ReplaysWitness, ReplaysTexts}
 use Rattle.vmv.specs.declared.task.Task.{Task}
 use Rattle.vmv.specs.Faults.{SaysFault, IsSource}
-use Rattle.vmv.specs.Command.{text_most, first_name, second_name, ReviewsPrograms, ReviewsTexts, OnTexts, OnFiles, OnTold}
+use Rattle.vmv.specs.Reviews.{ReviewsPrograms}
+use Rattle.vmv.specs.Command.{text_most, first_name, second_name, ReviewsTexts, OnTexts, OnFiles, OnTold}
 
 pub chosen : (b : Bool) (P Q : Type 0) → b ≡ true → P → MatchBool b P Q
 chosen true P Q e p = p

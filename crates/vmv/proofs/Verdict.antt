@@ -1,25 +1,26 @@
 -- A printed verdict is right.
-use Rattle.std.proofs.Common.{◌≡◌, ◌≢◌, ◌⊎◌, inl, inr, ⊎_elim, ℕ, ◌+◌, nat_lt, nat_eq, ◌==◌, eqb, Bool, true, false, if◌then◌else◌, MatchBool, Option, Some, List, [], ◌∷◌, ◌++◌, length, take, codes, refl, sym, ap, subst, arith, append_assoc, append-nil, ◌≤◌, ◌∙◌}
+use Rattle.std.proofs.Common.{◌≡◌, ◌≢◌, ◌⊎◌, inl, inr, ⊎_elim, ℕ, ◌+◌, nat_lt, nat_eq, ◌==◌, eqb, Bool, true, false, if◌then◌else◌, MatchBool, Option, Some, None, List, [], ◌∷◌, ◌++◌, length, take, codes, refl, sym, ap, subst, arith, append_assoc, append-nil, ◌≤◌, ◌∙◌}
 use Rattle.std.proofs.lemmas.Bool.{eqb-true, false≢true}
 use Rattle.std.specs.List.{starts_with}
 use Rattle.std.specs.Str.{bytes_eq}
 use Rattle.std.proofs.lemmas.List.{length-take, take-take, take_all}
 use Rattle.std.proofs.lemmas.Slice.Eq.{bytes_eq-Decides}
-use Rattle.vmv_tree.specs.declared.name.Name.{Name}
-use Rattle.vmv_tree.specs.Tree.{Item, outside, helper, entry}
-use Rattle.vmv_tree.specs.Safe.{Environment, Safe}
+use Rattle.vmv_tree.specs.Tree.{Item}
+use Rattle.vmv_tree.specs.Safe.{RelCorrect}
+use Rattle.vmv_snapshot.specs.Resolution.{Resolution, IsResolution, tree_of}
 use Rattle.vmv_text.specs.Grammar.{IsText}
-use Rattle.vmv_text.specs.First.{is_first}
 use Rattle.vmv_text.proofs.OneTree.{text_once}
 use Rattle.vmv_edge.specs.Outside.{IsAsTold, Appended, AppendedFront}
 use Rattle.vmv.specs.declared.task.Task.{Task}
 use Rattle.vmv.specs.declared.task.Task.TheVariants.{Review, Replay}
-use Rattle.vmv.specs.Report.{line, IsLine, alarm_count, verdict_line, counts_line, alarm_lines, report, IsReport}
+use Rattle.vmv_report.specs.declared.report.Report.{Report}
+use Rattle.vmv_report.specs.Texts.{line, report_text}
+use Rattle.vmv_report.specs.Reports.{IsReport}
+use Rattle.vmv.specs.Reviews.{ReviewsPrograms}
 use Rattle.vmv_source.specs.declared.fault.TextFault.{TextFault}
 use Rattle.vmv_source.specs.declared.fault.TextFault.TheVariants.{TooLong}
 use Rattle.vmv.specs.Faults.{SaysFault, fault_end}
-use Rattle.vmv.specs.Command.{text_most, IsReview, IsCommand, ReviewsPrograms, ReviewsTexts, OnFiles, OnTold, SaysRelativelyCorrect, VerdictHolds}
-use Rattle.vmv.proofs.Sound.{clean_safe}
+use Rattle.vmv.specs.Command.{text_most, IsReview, IsCommand, ReviewsTexts, OnFiles, OnTold, SaysRelativelyCorrect, VerdictHolds}
 
 -- what a front of a text begins with, the text begins with
 front_begins : (said : List ℕ) (n : ℕ) (text : List ℕ) → starts_with nat_eq (take n text) said ≡ true → starts_with nat_eq text said ≡ true
@@ -29,31 +30,10 @@ front_begins said n text h =
     let same : take (length said) (take n text) ≡ take (length said) text = take-take (length said) n text short in
     (bytes_eq-Decides said (take (length said) text)).1 (e ∙ same)
 
--- the verdict line of a report with alarms is another
-says_none : (none : Bool) (rest : List ℕ) → starts_with nat_eq (line (if none then codes "verdict relatively correct" else codes "verdict alarms") ++ rest) (line (codes "verdict relatively correct")) ≡ true → none ≡ true
-says_none true rest h = refl
-says_none false rest h = absurd (cc)
-
-report_says : (name : Name) (clean : List Bool) → SaysRelativelyCorrect (report name clean) → alarm_count clean ≡ 0
-report_says name clean h =
-    let joined = append_assoc (verdict_line clean) (counts_line clean) (alarm_lines name 1 clean) in
-    eqb-true (alarm_count clean) 0 (says_none (alarm_count clean == 0) (counts_line clean ++ alarm_lines name 1 clean) (subst SaysRelativelyCorrect joined h))
-
--- a report that says so is of a program that is safe in every environment
-report_safe : (program : List Item) (printed : List ℕ) (status : ℕ) → IsReport program printed status → SaysRelativelyCorrect printed → (env : Environment) → Safe env program
-report_safe [] printed status h said env = absurd h
-report_safe (outside f arity ∷ more ∷ items) printed status h said env = absurd h
-report_safe (helper f params body ∷ more ∷ items) printed status h said env = absurd h
-report_safe (entry f params body ∷ more ∷ items) printed status h said env = absurd h
-report_safe (outside f arity ∷ []) printed status h said env = absurd h
-report_safe (helper f params body ∷ []) printed status h said env = absurd h
-report_safe (entry f params body ∷ []) printed status (clean, reviewed, is, meant) said env =
-    clean_safe env f params body clean reviewed.0 reviewed.1 (report_says f clean (subst SaysRelativelyCorrect is said))
-
 not_said : (text printed : List ℕ) → printed ≡ text → starts_with nat_eq text (line (codes "verdict relatively correct")) ≡ false → SaysRelativelyCorrect printed → ⊥
 not_said text printed is other said = let yes = subst SaysRelativelyCorrect is said in cc
 
-cases : (b : Bool) (P Q : Type 0) → MatchBool b P Q → P ⊎ Q
+pub cases : (b : Bool) (P Q : Type 0) → MatchBool b P Q → P ⊎ Q
 cases true P Q h = inl h
 cases false P Q h = inr h
 
@@ -68,33 +48,34 @@ base_not_said why printed status says said = fault_not_said (codes "base") why p
 revision_not_said : (why : TextFault) (printed : List ℕ) (status : ℕ) → SaysFault (codes "revision") why printed status → SaysRelativelyCorrect printed → ⊥
 revision_not_said why printed status says said = fault_not_said (codes "revision") why printed status (λ more. refl) says said
 
-programs_safe : (B R : List Item) (printed : List ℕ) (status : ℕ) → ReviewsPrograms B R printed status → SaysRelativelyCorrect printed → (env : Environment) → Safe env R
-programs_safe B R printed status h said env =
-    ⊎_elim
-    (λ (built : MatchBool (is_first R) (IsReport R printed status) (IsLine (codes "revision: not built yet") 4 printed status)).
-    ⊎_elim
-    (λ (report : IsReport R printed status). report_safe R printed status report said env)
-    (λ (none : IsLine (codes "revision: not built yet") 4 printed status). absurd (not_said (line (codes "revision: not built yet")) printed none.0 refl said))
-    (cases (is_first R) _ _ built))
-    (λ (none : IsLine (codes "base: not built yet") 4 printed status). absurd (not_said (line (codes "base: not built yet")) printed none.0 refl said))
-    (cases (is_first B) _ _ h)
+-- a report with verdict 1 holds, and no other text says that the revision is relatively correct
+pub record VerdictsHold : Type 0 where
+  pub holds : (base revision : Resolution) (report : Report) → IsResolution base → IsResolution revision → IsReport base revision report → report.verdict ≡ 1 → RelCorrect (tree_of base) (tree_of revision)
+  pub said : (base revision : Resolution) (report : Report) → IsReport base revision report → SaysRelativelyCorrect (report_text report base revision) → report.verdict ≡ 1
 
-texts_safe : (base revision : List ℕ) (R : List Item) (printed : List ℕ) (status : ℕ) → ReviewsTexts base revision printed status → IsText revision R →
-    SaysRelativelyCorrect printed → (env : Environment) → Safe env R
-texts_safe base revision R printed status (inl (why, has, says)) text said env = absurd (base_not_said why printed status says said)
-texts_safe base revision R printed status (inr (B, source, (inl (why, has, says)))) text said env = absurd (revision_not_said why printed status says said)
-texts_safe base revision R printed status (inr (B, source, (inr (P, source', reviews)))) text said env =
-    subst (λ (P : List Item). Safe env P) (text_once revision P R source'.0 text) (programs_safe B P printed status reviews said env)
+programs_correct : VerdictsHold → (B R : List Item) (printed : List ℕ) (status : ℕ) → ReviewsPrograms B R printed status → SaysRelativelyCorrect printed → RelCorrect B R
+programs_correct law B R printed status h said =
+    let verdict = law.said h.base_code h.revision_code h.report h.report_is (subst SaysRelativelyCorrect h.text said) in
+    let correct = law.holds h.base_code h.revision_code h.report h.base_is.resolution h.revision_is.resolution h.report_is verdict in
+    subst (λ (P : List Item). RelCorrect P R) h.base_is.tree (subst (λ (P : List Item). RelCorrect (tree_of h.base_code) P) h.revision_is.tree correct)
 
-reviews_safe : (base revision : List ℕ) (R : List Item) (printed : List ℕ) (status : ℕ) → OnFiles Review base revision printed status → IsText revision R →
-    SaysRelativelyCorrect printed → (env : Environment) → Safe env R
-reviews_safe base revision R printed status h text said env =
+texts_correct : VerdictsHold → (base revision : List ℕ) (B R : List Item) (printed : List ℕ) (status : ℕ) → ReviewsTexts base revision printed status → IsText base B → IsText revision R →
+    SaysRelativelyCorrect printed → RelCorrect B R
+texts_correct law base revision B R printed status (inl (why, has, says)) text text' said = absurd (base_not_said why printed status says said)
+texts_correct law base revision B R printed status (inr (C, source, (inl (why, has, says)))) text text' said = absurd (revision_not_said why printed status says said)
+texts_correct law base revision B R printed status (inr (C, source, (inr (P, source', reviews)))) text text' said =
+    subst (λ (Q : List Item). RelCorrect Q R) (text_once base C B source.0 text)
+    (subst (λ (Q : List Item). RelCorrect C Q) (text_once revision P R source'.0 text') (programs_correct law C P printed status reviews said))
+
+files_correct : VerdictsHold → (base revision : List ℕ) (B R : List Item) (printed : List ℕ) (status : ℕ) → OnFiles Review base revision printed status → IsText base B → IsText revision R →
+    SaysRelativelyCorrect printed → RelCorrect B R
+files_correct law base revision B R printed status h text text' said =
     ⊎_elim
     (λ (long : SaysFault (codes "base") (TooLong (text_most + 1)) printed status). absurd (base_not_said (TooLong (text_most + 1)) printed status long said))
     (λ (short : MatchBool (nat_lt text_most (length revision)) (SaysFault (codes "revision") (TooLong (text_most + 1)) printed status) (ReviewsTexts base revision printed status)).
     ⊎_elim
     (λ (long : SaysFault (codes "revision") (TooLong (text_most + 1)) printed status). absurd (revision_not_said (TooLong (text_most + 1)) printed status long said))
-    (λ (both : ReviewsTexts base revision printed status). texts_safe base revision R printed status both text said env)
+    (λ (both : ReviewsTexts base revision printed status). texts_correct law base revision B R printed status both text text' said)
     (cases (nat_lt text_most (length revision)) _ _ short))
     (cases (nat_lt text_most (length base)) _ _ h)
 
@@ -102,7 +83,7 @@ reviews_safe base revision R printed status h text said env =
 abbrev pub IsFront : List ℕ → List ℕ → Type 0
 IsFront printed text = (n : ℕ) × (printed ≡ take n text)
 
-append_same : (old xs ys : List ℕ) → old ++ xs ≡ old ++ ys → xs ≡ ys
+pub append_same : (old xs ys : List ℕ) → old ++ xs ≡ old ++ ys → xs ≡ ys
 append_same [] xs ys e = e
 append_same (x ∷ old) xs ys e = append_same old xs ys (cc)
 
@@ -111,38 +92,54 @@ told_front before after old printed text was is (n, h) =
     let h' : Appended (Some old) (take n text) (Some (old ++ printed)) = rw (was, is) at h in
     (n, append_same old printed (take n text) h')
 
+-- the words of a review tell its names
+pub second_word : (x y z w : List ℕ) → ◌≡◌ {A = List (List ℕ)} (codes "review" ∷ x ∷ y ∷ []) (codes "review" ∷ z ∷ w ∷ []) → x ≡ z
+second_word x y z w e = cc
+
+pub third_word : (x y z w : List ℕ) → ◌≡◌ {A = List (List ℕ)} (codes "review" ∷ x ∷ y ∷ []) (codes "review" ∷ z ∷ w ∷ []) → y ≡ w
+third_word x y z w e = cc
+
 -- whatever front of a review was printed, the verdict that it says holds
-review_holds : (words : List (List ℕ)) (told : List ℕ → Option (List ℕ)) (before after : Option (List ℕ)) (base_name revision_name text : List ℕ) (status : ℕ) →
+review_holds : VerdictsHold → (words : List (List ℕ)) (told : List ℕ → Option (List ℕ)) (before after : Option (List ℕ)) (base_name revision_name text : List ℕ) (status : ℕ) →
     IsReview words base_name revision_name → OnTold Review (told base_name) (told revision_name) text status → AppendedFront before text after →
     VerdictHolds words told before after
-review_holds words told before after base_name revision_name text status review (read_base, read_revision, base_told, revision_told, reviews) taken
-    b r base revision old printed B R review' told_b told_r text_b text_r was is said env covers covers' safe =
-    let same : revision_name ≡ r = third_word base_name revision_name b r (sym review.words_are ∙ review'.words_are) in
-    let told' : told revision_name ≡ Some revision = ap told same ∙ told_r in
-    let read : read_revision ≡ revision = subst (λ (t : Option (List ℕ)). IsAsTold t read_revision) told' revision_told in
+review_holds law words told before after base_name revision_name text status review (read_base, read_revision, base_told, revision_told, reviews) taken
+    b r base revision old printed B R review' told_b told_r text_b text_r was is said =
+    let words_same = sym review.words_are ∙ review'.words_are in
+    let told_b' : told base_name ≡ Some base = ap told (second_word base_name revision_name b r words_same) ∙ told_b in
+    let told_r' : told revision_name ≡ Some revision = ap told (third_word base_name revision_name b r words_same) ∙ told_r in
+    let base_is : read_base ≡ base = subst (λ (t : Option (List ℕ)). IsAsTold t read_base) told_b' base_told in
+    let revision_is : read_revision ≡ revision = subst (λ (t : Option (List ℕ)). IsAsTold t read_revision) told_r' revision_told in
     let front = told_front before after old printed text was is taken in
     let said' : SaysRelativelyCorrect text = front_begins (line (codes "verdict relatively correct")) front.0 text (subst SaysRelativelyCorrect front.1 said) in
-    reviews_safe read_base read_revision R text status reviews (subst (λ (t : List ℕ). IsText t R) (sym read) text_r) said' env
+    files_correct law read_base read_revision B R text status reviews (subst (λ (t : List ℕ). IsText t B) (sym base_is) text_b) (subst (λ (t : List ℕ). IsText t R) (sym revision_is) text_r) said'
   where
+    second_word : (x y z w : List ℕ) → ◌≡◌ {A = List (List ℕ)} (codes "review" ∷ x ∷ y ∷ []) (codes "review" ∷ z ∷ w ∷ []) → x ≡ z
+    second_word x y z w e = cc
+
     third_word : (x y z w : List ℕ) → ◌≡◌ {A = List (List ℕ)} (codes "review" ∷ x ∷ y ∷ []) (codes "review" ∷ z ∷ w ∷ []) → y ≡ w
     third_word x y z w e = cc
 
--- the words of a replay are those of no review, so no verdict is said
-replay_holds : (words : List (List ℕ)) (told : List ℕ → Option (List ℕ)) (before after : Option (List ℕ)) (first second : List ℕ) → IsCommand Replay words first second →
-    VerdictHolds words told before after
-replay_holds words told before after first second command b r base revision old printed B R review =
+-- no words are those of a replay and of a review
+pub not_both : (words : List (List ℕ)) (first second b r : List ℕ) → IsCommand Replay words first second → IsReview words b r → ⊥
+not_both words first second b r command review =
     let same : codes "replay" ≡ codes "review" = heads (codes "replay") (codes "review") (first ∷ second ∷ []) (b ∷ r ∷ []) (sym command.words_are ∙ review.words_are) in
     let yes : bytes_eq (codes "replay") (codes "review") ≡ true = (bytes_eq-Decides (codes "replay") (codes "review")).1 same in
-    absurd (false≢true yes)
+    false≢true yes
   where
     heads : (x y : List ℕ) (xs ys : List (List ℕ)) → ◌≡◌ {A = List (List ℕ)} (x ∷ xs) (y ∷ ys) → x ≡ y
     heads x y xs ys e = cc
 
+-- so no verdict is said there
+replay_holds : (words : List (List ℕ)) (told : List ℕ → Option (List ℕ)) (before after : Option (List ℕ)) (first second : List ℕ) → IsCommand Replay words first second →
+    VerdictHolds words told before after
+replay_holds words told before after first second command b r base revision old printed B R review = absurd (not_both words first second b r command review)
+
 -- the same of any command
-pub verdict_holds : (task : Task) (words : List (List ℕ)) (told : List ℕ → Option (List ℕ)) (before after : Option (List ℕ)) (first second text : List ℕ) (status : ℕ) →
+pub verdict_holds : VerdictsHold → (task : Task) (words : List (List ℕ)) (told : List ℕ → Option (List ℕ)) (before after : Option (List ℕ)) (first second text : List ℕ) (status : ℕ) →
     IsCommand task words first second → OnTold task (told first) (told second) text status → AppendedFront before text after → VerdictHolds words told before after
-verdict_holds Review words told before after first second text status command on taken = review_holds words told before after first second text status command on taken
-verdict_holds Replay words told before after first second text status command on taken = replay_holds words told before after first second command
+verdict_holds law Review words told before after first second text status command on taken = review_holds law words told before after first second text status command on taken
+verdict_holds law Replay words told before after first second text status command on taken = replay_holds words told before after first second command
 
 -- where nothing was printed, no verdict was
 pub nothing_said : (before : Option (List ℕ)) (old printed : List ℕ) → before ≡ Some old → before ≡ Some (old ++ printed) → SaysRelativelyCorrect printed → ⊥

@@ -4,13 +4,14 @@ use Rattle.std.specs.List.{starts_with}
 use Rattle.vmv_tree.specs.Tree.{Item}
 use Rattle.vmv_tree.specs.Safe.{RelCorrect}
 use Rattle.vmv_text.specs.Grammar.{IsText}
-use Rattle.vmv_text.specs.First.{is_first}
 use Rattle.vmv_edge.specs.Outside.{IsAsTold}
 use Rattle.vmv_source.specs.declared.fault.TextFault.{TextFault}
 use Rattle.vmv_source.specs.declared.fault.TextFault.TheVariants.{TooLong}
 use Rattle.vmv.specs.declared.task.Task.{Task}
 use Rattle.vmv.specs.declared.task.Task.TheVariants.{Review, Replay}
-use Rattle.vmv.specs.Report.{line, IsLine, IsReport}
+use Rattle.vmv_report.specs.Texts.{line}
+use Rattle.vmv.specs.Lines.{IsLine}
+use Rattle.vmv.specs.Reviews.{ReviewsPrograms}
 use Rattle.vmv.specs.Faults.{SaysFault, HasWhy, IsSource}
 use Rattle.vmv.specs.Replays.{ReplaysTexts}
 
@@ -57,13 +58,6 @@ IsNoCommand words = (task : Task) (first second : List ℕ) → IsCommand task w
 
 abbrev pub usage : List ℕ
 usage = codes "usage: vmv review BASE REV [--workers N] [--proof] | baseline BASE [--workers N] | recheck BASE REV PROOF | replay REV WITNESS | sample NUMBER [--workers N] | serve ADDRESS STORE COUNT [--workers N]"
-
--- the review of two valid programs: the first that isn't of the first class, or the report of the revision
-abbrev pub ReviewsPrograms : (base revision : List Item) → List ℕ → ℕ → Type 0
-ReviewsPrograms base revision printed status =
-    MatchBool (is_first base)
-    (MatchBool (is_first revision) (IsReport revision printed status) (IsLine (codes "revision: not built yet") 4 printed status))
-    (IsLine (codes "base: not built yet") 4 printed status)
 
 -- the review of two texts that aren't too long: the first fault of the base, or else that of the revision, or else the
 -- review of their programs

@@ -9,7 +9,7 @@ use Rattle.vmv_text.specs.Grammar.{IsText}
 use Rattle.vmv_source.specs.declared.fault.TextFault.{TextFault}
 use Rattle.vmv_source.specs.declared.fault.TextFault.TheVariants as fault
 use Rattle.vmv_source.specs.Faults.{IsTextFault}
-use Rattle.vmv.specs.Report.{line}
+use Rattle.vmv_report.specs.Texts.{line}
 
 -- what a limit is called, by its number from 1: those of a program and of an outside name, of a procedure, and of a helper and an entry
 abbrev pub program_limit : ℕ → List ℕ

@@ -1,6 +1,6 @@
-pub mod Ranges
-pub mod Report
-pub mod Known
+pub mod Lines
+pub mod Reviews
 pub mod Faults
 pub mod Replays
 pub mod Command
+pub mod Regressions

@@ -18,7 +18,8 @@ use Rattle.vmv_witness.specs.declared.fitting.Unfit.TheVariants.{NoEntry, ParamC
 use Rattle.vmv_witness.specs.Text.{IsTextOf}
 use Rattle.vmv_witness.specs.Faults.{IsWhy}
 use Rattle.vmv_witness.specs.Fit.{words_of, Fits}
-use Rattle.vmv.specs.Report.{line, IsLine, site_end}
+use Rattle.vmv_report.specs.Texts.{line}
+use Rattle.vmv.specs.Lines.{IsLine, site_end}
 use Rattle.vmv.specs.Faults.{SaysFault, HasWhy, IsSource}
 
 -- what the line of a fault has behind `witness`; want of memory has no line

@@ -4,9 +4,7 @@
 mod command;
 mod faults;
 mod output;
-mod ranges;
 mod replays;
-mod report;
 mod review;
 mod task;
 mod texts;

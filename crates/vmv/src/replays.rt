@@ -2,12 +2,12 @@ ghost use Rattle.std.specs.Prelude.{◌≡◌, ◌≢◌, ◌++◌, ◌↔◌, m
 ghost use Rattle.std.specs.String.{string_bytes};
 ghost use Rattle.vmv_snapshot.specs.Resolution.{tree_of};
 ghost use Rattle.vmv_witness.specs.Fit.{Fits};
-ghost use Rattle.vmv.specs.Report.{line, IsLine};
+ghost use Rattle.vmv_report.specs.Texts.{line};
+ghost use Rattle.vmv.specs.Lines.{IsLine, site_end};
 ghost use Rattle.vmv.specs.Replays.{witness_fault_end, witness_fault_status, SaysWitnessFault, unfit_number, SaysUnfit, HasProc, FailsInside, IsCalled, SaysFails, SaysOutcome, ReplaysEntry, ReplaysWitness, ReplaysTexts};
 
 use crate::faults::fault_output;
 use crate::output::Output;
-use crate::report::site_end;
 use std::alloc::{AllocError, Global};
 use vmv_edge::Text;
 use vmv_run::{Outcome, replay};
@@ -90,11 +90,18 @@ fn fails_status(at: &NamedSite, named: &NamedSite) -> u8
     if same { 0 } else { 1 }
 }
 
+// The end of a line that names a site, behind the name of its procedure.
+fn site_end(alloc: Global, site: u32) -> Result<String, AllocError>
+    ensures { IfOk result (λ end. string_bytes end ≡ site_end site) }
+{
+    format!(in alloc; "#{site}\n")
+}
+
 // The line of a run that fails at a site, where the witness has this one.
 fn fails_output(alloc: Global, at: &NamedSite, named: &NamedSite) -> Result<Output, AllocError>
     ensures { IfOk result (λ output. SaysFails at.now named.now output.text output.status) }
 {
-    let end = site_end(alloc, at.index as usize)?;
+    let end = site_end(alloc, at.index)?;
     let mut text = Vec::from_slice(alloc, b"fails ")?;
     text.extend_from_slice(at.proc.bytes())?;
     text.extend_from_slice(end.as_bytes())?;

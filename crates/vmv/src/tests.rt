@@ -21,9 +21,11 @@ const SIXTEEN: &str =
 const SEVENTEEN: &str =
     "entry e() { var v1, v2, v3, v4, v5, v6, v7, v8, v9, v10, v11, v12, v13, v14, v15, v16, v17; return 0; }";
 
-const CORRECT: &[u8] = b"verdict relatively correct\nrows clean 2 hidden 0 regression 0 alarm 0\n";
+const CORRECT: &[u8] =
+    b"verdict relatively correct\nnecessary 0\nsufficient 0\nrows clean 2 hidden 0 regression 0 alarm 0\nwitnesses 0\n";
 
-const ALARM: &[u8] = b"verdict alarms\nrows clean 1 hidden 0 regression 0 alarm 1\n  alarm e e#2\n";
+const OFF_REPORT: &[u8] =
+    b"verdict regression\nnecessary 0\nsufficient 0\nrows clean 1 hidden 0 regression 1 alarm 0\n  regression e e#2\nwitnesses 1\nvmv-witness 1\nentry e\nsite e#2\nend\n";
 
 const USAGE: &[u8] =
     b"usage: vmv review BASE REV [--workers N] [--proof] | baseline BASE [--workers N] | recheck BASE REV PROOF | replay REV WITNESS | sample NUMBER [--workers N] | serve ADDRESS STORE COUNT [--workers N]\n";
@@ -95,17 +97,17 @@ fn straight_line_entries(rt: HostRuntime) -> Result<(), Fail> {
         text: CORRECT,
         status: 0,
     };
-    let alarm = Expected {
-        text: ALARM,
-        status: 1,
+    let off = Expected {
+        text: OFF_REPORT,
+        status: 2,
     };
-    reviews(&rt, rt.alloc(), SUM, OFF, &alarm)?;
+    reviews(&rt, rt.alloc(), SUM, OFF, &off)?;
     reviews(&rt, rt.alloc(), SUM, SUM, &correct)?;
     reviews(&rt, rt.alloc(), DOUBLE, DOUBLE, &correct)
 }
 
 /// Two texts, and the line and the status of their review.
-const LINES: [(&str, &str, &str, u8); 19] = [
+const LINES: [(&str, &str, &str, u8); 15] = [
     (CUT, SUM, "base: syntax at line 2 column 26\n", 4),
     (
         SUM,
@@ -175,10 +177,6 @@ const LINES: [(&str, &str, &str, u8); 19] = [
         4,
     ),
     (CUT, SEVENTEEN, "base: syntax at line 2 column 26\n", 4),
-    (TWO, TWO, "base: not built yet\n", 4),
-    (TWO, SUM, "base: not built yet\n", 4),
-    (SUM, TWO, "revision: not built yet\n", 4),
-    ("", "", "base: not built yet\n", 4),
     (TWO, CUT, "revision: syntax at line 2 column 26\n", 4),
 ];
 
@@ -207,7 +205,7 @@ fn texts_that_are_not_utf8(rt: HostRuntime) -> Result<(), Fail> {
 #[test]
 fn most_variables(rt: HostRuntime) -> Result<(), Fail> {
     let correct = Expected {
-        text: b"verdict relatively correct\nrows clean 0 hidden 0 regression 0 alarm 0\n",
+        text: b"verdict relatively correct\nnecessary 0\nsufficient 0\nrows clean 0 hidden 0 regression 0 alarm 0\nwitnesses 0\n",
         status: 0,
     };
     reviews(&rt, rt.alloc(), SUM, SIXTEEN, &correct)
@@ -289,11 +287,11 @@ fn writes_that_fail(rt: HostRuntime) -> Result<(), Fail> {
     };
     let stops = MemorySink::new(alloc, 4096, 7, vec![in alloc; 2u64]?)?;
     prints(&rt, alloc, &REVIEW, &mut shelf, stops, &front)?;
-    let alarm = Expected {
-        text: ALARM,
-        status: 1,
+    let off = Expected {
+        text: OFF_REPORT,
+        status: 2,
     };
-    prints(&rt, alloc, &REVIEW, &mut shelf, sink(alloc, 1)?, &alarm)
+    prints(&rt, alloc, &REVIEW, &mut shelf, sink(alloc, 1)?, &off)
 }
 
 #[test]
@@ -307,9 +305,9 @@ fn texts_that_are_too_long(rt: HostRuntime) -> Result<(), Fail> {
         text: b"revision: limit bytes found 1048577 most 1048576\n",
         status: 5,
     };
-    let built = Expected {
-        text: b"revision: not built yet\n",
-        status: 4,
+    let nothing = Expected {
+        text: b"verdict relatively correct\nnecessary 0\nsufficient 0\nrows clean 0 hidden 0 regression 0 alarm 0\nwitnesses 0\n",
+        status: 0,
     };
     let long = vec![in alloc; b' '; 1_048_577]?;
     let longest = vec![in alloc; b' '; 1_048_576]?;
@@ -339,8 +337,9 @@ fn texts_that_are_too_long(rt: HostRuntime) -> Result<(), Fail> {
         &["review", "sum", "longest"],
         &mut shelf,
         sink(alloc, 4096)?,
-        &built,
+        &nothing,
     )
 }
 
 mod replays;
+mod reports;

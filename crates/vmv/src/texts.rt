@@ -1,73 +1,16 @@
 ghost use Rattle.std.specs.Prelude.{◌≡◌, ◌+◌, ◌≤◌, ◌∷◌, [], length, IfOk, MatchOption, IfSome, IsNone, IsErrOf};
-ghost use Rattle.vmv.specs.Command.{text_most, first_name, second_name, ReviewsPrograms, ReviewsTexts, OnTexts, OnTold};
-ghost use Rattle.vmv.specs.Report.{IsReport};
+ghost use Rattle.vmv.specs.Command.{text_most, first_name, second_name, ReviewsTexts, OnTexts, OnTold};
 ghost use Rattle.vmv_edge.specs.Outside.{Rose, IsAsTold, IsMoreThan};
-ghost use Rattle.vmv_text.specs.First.{IsFirst};
-ghost use Rattle.vmv_tree.specs.Tree.{entry};
-ghost use Rattle.vmv_tree.specs.View.{program_of, items_of, body_of};
 
 use crate::faults::fault_output;
 use crate::output::{Output, Stop};
 use crate::replays::replay_texts;
-use crate::report::{report, report_status};
-use crate::review::review_entry;
+use crate::review::review_programs;
 use crate::task::Task;
 use std::alloc::{AllocError, Global};
 use vmv_edge::{Shelf, ShelfFault, Text};
 use vmv_source::{TextFault, parse};
-use vmv_text::{MOST_BYTES, is_first};
-use vmv_tree::{Body, Item, Name, Param, Program};
-
-// The parts of an entry.
-#[derive(Clone, Copy, Debug)]
-struct EntryParts<'a> {
-    name: &'a Name,
-    params: &'a [Param],
-    body: &'a Body,
-}
-
-// The entry, where it is the only item.
-fn only_entry<'a>(items: &'a [Item]) -> Option<EntryParts<'a>>
-    ensures { MatchOption result (IsFirst (items_of items.now) → ⊥) (λ e. items_of items.now ≡ entry e.name.now e.params.now (body_of e.body.now) ∷ []) }
-{
-    let [item] = items else {
-        return None;
-    };
-    let Item::Entry { name, params, body } = item else {
-        return None;
-    };
-    let params = params.as_slice();
-    Some(EntryParts { name, params, body })
-}
-
-// The report of a program of the first class.
-fn review_program(alloc: Global, program: &Program) -> Result<Output, AllocError>
-    requires { IsFirst (program_of program.now) }
-    ensures { IfOk result (λ output. IsReport (program_of program.now) output.text output.status) }
-{
-    let Some(entry) = only_entry(program.items.as_slice()) else {
-        unreachable!();
-    };
-    let clean = review_entry(alloc, entry.params, entry.body.block.as_slice())?;
-    let text = report(alloc, entry.name, &clean)?;
-    Ok(Output {
-        text: Text::from_vec(text),
-        status: report_status(&clean),
-    })
-}
-
-// The review of two valid programs.
-fn review_programs(alloc: Global, base: &Program, revision: &Program) -> Result<Output, AllocError>
-    ensures { IfOk result (λ output. ReviewsPrograms (program_of base.now) (program_of revision.now) output.text output.status) }
-{
-    if !is_first(base) {
-        return Output::of(alloc, b"base: not built yet\n", 4);
-    }
-    if !is_first(revision) {
-        return Output::of(alloc, b"revision: not built yet\n", 4);
-    }
-    review_program(alloc, revision)
-}
+use vmv_text::MOST_BYTES;
 
 // The review of two texts that aren't too long.
 fn review_texts(alloc: Global, base: &Text, revision: &Text) -> Result<Output, AllocError>
@@ -81,7 +24,7 @@ fn review_texts(alloc: Global, base: &Text, revision: &Text) -> Result<Output, A
         Ok(revision) => revision,
         Err(fault) => return fault_output(alloc, "revision", fault),
     };
-    review_programs(alloc, base.program(), revision.program())
+    review_programs(alloc, base, &revision)
 }
 
 // What is against a text that was too long to be read.

@@ -5,7 +5,6 @@
 #![tactic(auto)]
 
 mod block;
-mod class;
 mod cursor;
 mod fault;
 mod item;
@@ -19,7 +18,6 @@ mod statement;
 mod symbol;
 mod token;
 
-pub use class::is_first;
 pub use fault::ReadFault;
 pub use laws::{
     mention_has_its_name, names_are_mentions, no_program_at_fault, one_fault, one_program,

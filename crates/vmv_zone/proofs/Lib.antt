@@ -1,5 +1,3 @@
-pub mod Pairs
-pub mod Spans
 pub mod Products
 pub mod Filled
 pub mod Places

@@ -1,6 +1,5 @@
 pub mod Four
 pub mod Rel
-pub mod Range
 pub mod Bounds
 pub mod Change
 pub mod Zone

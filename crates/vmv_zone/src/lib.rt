@@ -1,4 +1,4 @@
-//! Bounds on the differences of up to 16 words and 0, and ranges of words. Nothing here takes memory.
+//! Bounds on the differences of up to 16 words and 0. Nothing here takes memory.
 #![tactic(auto)]
 
 mod args;
@@ -15,7 +15,6 @@ mod norm;
 mod operand;
 mod order;
 mod paths;
-mod range;
 mod read;
 mod rel;
 mod round;
@@ -30,7 +29,6 @@ pub use laws::{
     range_keeps_points, round_up_is_monotone, states_below_each_other_are_equal,
 };
 pub use operand::{ZoneOp, ZoneOperand, ZoneTest, ZoneValue};
-pub use range::{Range, always};
 pub use rel::ZoneRel;
 pub use zone::Zone;
 

@@ -1,8 +1,9 @@
 use Rattle.std.proofs.Common.{inl, inr, ℕ, map, refl, sym, subst, Global}
 use Rattle.std.specs.String.{string_bytes}
-use Rattle.vmv.specs.Report.{line}
+use Rattle.vmv_report.specs.Texts.{line}
 use Rattle.vmv.specs.Command.{usage, OnTold}
 use Rattle.vmv.proofs.Verdict.{verdict_holds, nothing_said, some_front}
+use Rattle.vmv.proofs.Regression.{regression_printed}
 use Rattle.vmv.proofs.command.run.Goals as goal
 
 pub returns-in_default-clause-output : goal.returns-in_default-clause-output
@@ -30,7 +31,7 @@ pub returns-in-Ok-clause-relatively_correct : goal.returns-in-Ok-clause-relative
 returns-in-Ok-clause-relatively_correct g c =
     let front = rw c.bytes.ensures at (some_front c.print-in-Ok.result (g.O.Sink.taken c.args.out.now) (g.O.Sink.taken c.print-in-Ok.new.out) c.bytes.result.now
     c.print-in-Ok.ensures.prefix c.print-in-Ok.ensures.written) in
-    verdict_holds c.in-Some.command.task (map (string_bytes {Z = Global}) c.args.words.now) (g.F.Shelf.told c.args.shelf.now) (g.O.Sink.taken c.args.out.now) (g.O.Sink.taken c.print-in-Ok.new.out)
+    verdict_holds (record { holds = c.correct_verdicts_hold.ensures; said = c.only_correct_reports_say_so.ensures }) c.in-Some.command.task (map (string_bytes {Z = Global}) c.args.words.now) (g.F.Shelf.told c.args.shelf.now) (g.O.Sink.taken c.args.out.now) (g.O.Sink.taken c.print-in-Ok.new.out)
     c.in-Some.command.first.now c.in-Some.command.second.now c.in-Ok.output.text c.in-Ok.output.status c.in-Some.ensures c.in-Ok.ensures.output front
 
 pub returns-in-Err-Failed-clause-relatively_correct : goal.returns-in-Err-Failed-clause-relatively_correct
@@ -40,3 +41,9 @@ returns-in-Err-Failed-clause-relatively_correct g c b r base revision old printe
 pub returns-in-Err-Memory-clause-relatively_correct : goal.returns-in-Err-Memory-clause-relatively_correct
 returns-in-Err-Memory-clause-relatively_correct g c b r base revision old printed B R review told_b told_r text_b text_r was is said =
     absurd (nothing_said (g.O.Sink.taken c.args.out.now) old printed was is said)
+
+pub returns-in-Ok-clause-regression : goal.returns-in-Ok-clause-regression
+returns-in-Ok-clause-regression g c =
+    regression_printed c.regressing_reports_show_it.ensures c.in-Some.command.task (map (string_bytes {Z = Global}) c.args.words.now) (g.F.Shelf.told c.args.shelf.now) (g.O.Sink.taken c.args.out.now) (g.O.Sink.taken c.print-in-Ok.new.out)
+    c.in-Some.command.first.now c.in-Some.command.second.now c.in-Ok.output.text c.in-Ok.output.status c.print-in-Ok.result c.in-Some.ensures c.in-Ok.ensures.output
+    c.print-in-Ok.ensures.status (λ whole. rw c.bytes.ensures at (c.print-in-Ok.ensures.written whole))

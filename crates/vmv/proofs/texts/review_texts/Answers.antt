@@ -16,4 +16,4 @@ pub returns : goal.returns
 returns c =
     let source : IsSource c.args.base.now (tree_of c.in-Ok.base) = (rw c.bytes.ensures at c.in-Ok.ensures.text, c.in-Ok.ensures.valid) in
     let source' : IsSource c.args.revision.now (tree_of c.in-Ok-parse.revision) = (rw c.bytes-2.ensures at c.in-Ok-parse.ensures.text, c.in-Ok-parse.ensures.valid) in
-    none_at_fault c.review_programs.result c.args.base.now c.args.revision.now (tree_of c.in-Ok.base) (tree_of c.in-Ok-parse.revision) source source' (rw (c.program.ensures.program, c.program-2.ensures.program) at c.review_programs.ensures)
+    none_at_fault c.review_programs.result c.args.base.now c.args.revision.now (tree_of c.in-Ok.base) (tree_of c.in-Ok-parse.revision) source source' c.review_programs.ensures
