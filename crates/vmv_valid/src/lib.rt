@@ -17,6 +17,3 @@ mod stop;
 
 pub use first::first_defect;
 pub use stop::FoundDefect;
-
-#[cfg(test)]
-mod tests;
