@@ -2,12 +2,6 @@
 #![tactic(auto)]
 
 #[cfg(test)]
-mod demands;
-#[cfg(test)]
-mod enough;
-#[cfg(test)]
-mod necessary;
-#[cfg(test)]
 mod runs;
 #[cfg(test)]
 mod tables;
