@@ -341,5 +341,6 @@ fn texts_that_are_too_long(rt: HostRuntime) -> Result<(), Fail> {
     )
 }
 
+mod limits;
 mod replays;
 mod reports;

@@ -10,6 +10,3 @@ pub use laws::{
     every_environment_is_within_whole, kept_is_below, kept_is_monotone, meeting_is_monotone,
     within_is_monotone, within_what_is_cut, within_what_is_kept,
 };
-
-#[cfg(test)]
-mod tests;

@@ -5,3 +5,4 @@ pub mod Emptied
 pub mod Found
 pub mod Params
 pub mod Whole
+pub mod Boxed

@@ -4,8 +4,8 @@ ghost use Rattle.vmv_back.specs.Boxes.{full_box};
 use vmv_snapshot::ParamBox;
 use vmv_tree::Param;
 
-/// The parameters' own ranges.
-pub(crate) fn full_box(params: &[Param]) -> ParamBox
+/// The box of the whole ranges of parameters: for each parameter its own range, in order. An entry has at most 16.
+pub fn full_box(params: &[Param]) -> ParamBox
     requires { length params.now ≤ 16 }
     ensures { result ≡ full_box params.now }
 {

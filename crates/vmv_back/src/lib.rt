@@ -8,6 +8,4 @@ mod fixed;
 mod full;
 
 pub use apart::{Boxes, boxes};
-
-#[cfg(test)]
-mod tests;
+pub use full::full_box;

@@ -10,5 +10,6 @@ mod sites;
 mod table;
 mod walk;
 
+pub use loops::block_loops;
 pub use refused::Refused;
 pub use table::check_table;

@@ -23,7 +23,7 @@ fn loops(stmt: &CodeStmt) -> usize
 
 /// How many loops the statements have, those inside others counted.
 #[cycle(count)]
-pub(crate) fn block_loops(block: &[CodeStmt]) -> usize
+pub fn block_loops(block: &[CodeStmt]) -> usize
     requires { block_statements (block_of block.now) ≤ 2000 }
     ensures { result ≡ block_loops (block_of block.now) }
 {

@@ -18,6 +18,3 @@ pub use vmv_keeper::{
     Kept, Label, Labels, Numbers, PendingRow, PendingRows, Query, Reply, Submitted, VersionRow,
     VersionRows,
 };
-
-#[cfg(test)]
-mod tests;

@@ -3,6 +3,8 @@
 #![tactic(auto)]
 
 #[cfg(test)]
+mod desk;
+#[cfg(test)]
 mod edges;
 #[cfg(test)]
 mod failures;

@@ -29,6 +29,3 @@ pub use std::alloc::AllocError as Memory;
 pub use streams::StreamSink;
 pub use text::Text;
 pub use vault::{FaultlessVault, MemoryVault, Vault};
-
-#[cfg(test)]
-mod tests;

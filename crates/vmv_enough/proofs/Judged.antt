@@ -6,53 +6,22 @@ use Rattle.vmv_tree.specs.declared.ends.NameEnds.{NameEnds}
 use Rattle.vmv_tree.specs.declared.site.NamedSite.{NamedSite}
 use Rattle.vmv_tree.specs.declared.tree.Param.{Param}
 use Rattle.vmv_tree.specs.Tree.{entry}
-use Rattle.vmv_tree.specs.Run.{name_of}
 use Rattle.vmv_snapshot.specs.Procs.{is_entry}
-use Rattle.vmv_snapshot.specs.Resolution.{Resolution, IsResolution, tree_of, procs_of}
+use Rattle.vmv_snapshot.specs.Resolution.{Resolution, procs_of}
 use Rattle.vmv_assumption.specs.Assumed.{Assumed}
-use Rattle.vmv_cert.specs.declared.row.Row.{Row}
-use Rattle.vmv_cert.specs.Tables.{IsEntry, IsSiteOf, ranges_of, Provable, Accepted, HasThresholds}
+use Rattle.vmv_cert.specs.Tables.{IsEntry, AreSitesOf, Provable}
 use Rattle.vmv_table_sound.specs.Told.{IsProved}
-use Rattle.vmv_run.proofs.OneReplay.{procs_once}
-use Rattle.vmv_forward.specs.Least.{IsLeastTable, IsFirst}
-use Rattle.vmv_enough.specs.declared.plan.Subject.{Subject}
-use Rattle.vmv_enough.specs.Plan.{IsSubject, IsJudged, AreJudged, AreEmpty}
+use Rattle.vmv_forward.proofs.Entries.{some_entry}
+use Rattle.vmv_enough.specs.Plan.{IsJudged, AreJudged, AreEmpty}
 use Rattle.vmv_enough.proofs.Lists.{none_in, first_in, push_at, mapped_at, something_at}
 
--- what the least table of an entry and its whole ranges decides
-abbrev pub DecidesProof : Type 0
-DecidesProof = (program : Resolution) (number : ℕ) (params : List Param) (ends : List NameEnds) (assumed : Assumed) (first : Row) (rest : List Row) (site : NamedSite) → IsResolution program → IsEntry program number params
-    → IsLeastTable program number (ranges_of params) ends assumed (first ∷ rest) → Accepted program assumed (first ∷ rest) → HasThresholds program number ends (first ∷ rest) → Provable program number ends assumed site ↔ (Contains first.unproved site → ⊥)
-
--- each site that a row of an accepted table lists is one of its procedure
-listed : (program : Resolution) (assumed : Assumed) (rows : List Row) (row : Row) (n : ℕ) (site : NamedSite) → IsResolution program → Accepted program assumed rows → Contains rows row →
-    slice_get (map name_of (procs_of program)) n ≡ Some row.proc → Contains row.unproved site → (m : ℕ) × IsSiteOf program n m site
-listed program assumed rows row n site r accepted there named has =
-    let passes = accepted row there in
-    ⊎_elim
-    (λ wrong. let e = wrong.1 in absurd (cc))
-    (λ (k, item, code, formed, walks).
-    let here : slice_get (map name_of (procs_of program)) k ≡ Some row.proc = mapped_at name_of (procs_of program) k item formed.place ∙ ap (λ x. Some x) formed.named in
-    let same : k ≡ n = procs_once (tree_of program) k n row.proc r.valid here named in
-    let found = formed.sites.each site has in
-    (found.0, subst (λ j. IsSiteOf program j found.0 site) same found.1))
-    passes.1
-
-pub judged_by : (program : Resolution) (n : ℕ) (ends : List NameEnds) (assumed : Assumed) (subject : Subject) (rows : List Row) (sites : List NamedSite) → DecidesProof → IsResolution program → IsSubject program ends n subject →
-    Accepted program assumed rows → HasThresholds program n ends rows → IsLeastTable program n subject.full ends assumed rows → ((first : Row) × (rest : List Row) × (rows ≡ first ∷ rest) × IsFirst program n first) →
-    ((first : Row) (rest : List Row) → rows ≡ first ∷ rest → sites ≡ first.unproved) → IsJudged program ends assumed n sites
-judged_by program n ends assumed subject rows sites law r s accepted thresholds least (first, rest, parts, named) unproved =
-    let same = unproved first rest parts in
-    let whole : IsLeastTable program n (ranges_of s.params) ends assumed rows = subst (λ b. IsLeastTable program n b ends assumed rows) s.full least in
-    let there : Contains rows first = subst (λ xs. Contains xs first) (sym parts) (first_in first rest) in
-    let l = subst (λ xs. IsLeastTable program n (ranges_of s.params) ends assumed xs) parts whole in
-    let a = subst (λ xs. Accepted program assumed xs) parts accepted in
-    let t = subst (λ xs. HasThresholds program n ends xs) parts thresholds in
+pub judged_by : (program : Resolution) (n : ℕ) (ends : List NameEnds) (assumed : Assumed) (sites : List NamedSite) → slice_get (map is_entry (procs_of program)) n ≡ Some true →
+    ((site : NamedSite) → Provable program n ends assumed site ↔ (Contains sites site → ⊥)) → AreSitesOf program n sites → IsJudged program ends assumed n sites
+judged_by program n ends assumed sites flag decides are =
+    let own = some_entry program n flag in
     record {
-      decides = λ flag site. subst (λ xs. Provable program n ends assumed site ↔ (Contains xs site → ⊥)) (sym same) (law program n s.params ends assumed first rest site r s.entry l a t);
-      real = λ site has.
-          let found = listed program assumed rows first n site r accepted there named (subst (λ xs. Contains xs site) same has) in
-          (found.0, s.params, s.entry, found.1);
+      decides = λ marked site. decides site;
+      real = λ site has. let found = are.each site has in (found.0, own.0, own.1, found.1);
     }
 
 -- a helper has no site to judge

@@ -1,7 +1,4 @@
 pub mod Lists
-pub mod Entries
-pub mod Full
-pub mod Boxed
 pub mod Judged
 pub mod Opened
 pub mod Room

@@ -103,9 +103,6 @@ sum_less f g (x ∷ xs) z h there less =
     (λ (t : Contains xs z). let l = sum_less f g xs z (λ y u. h y (further x xs y u)) t less in omega (arith, here, l, p, q))
     (first_or_further x xs z there)
 
-pub some_there : {X : Type 0} (xs : List X) (x : X) (rest : List X) → xs ≡ x ∷ rest → 0 < length xs
-some_there xs x rest e = let h = ap length e in omega (arith, h)
-
 -- a place within a list has the same, whatever stands for the places past its end
 pub same_item : {X : Type 0} (xs : List X) (k : ℕ) (d e : X) → k < length xs → get_or xs k d ≡ get_or xs k e
 same_item [] k d e h = absurd (omega (arith, h))

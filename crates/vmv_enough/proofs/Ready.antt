@@ -15,8 +15,8 @@ use Rattle.vmv_enough.specs.declared.probe.Probe.{Probe}
 use Rattle.vmv_enough.specs.Probes.{modes, choices_of, of_mode, of_box, tries, CanMiss, AreThose, AreProbes}
 use Rattle.vmv_enough.specs.Tried.{IsReady}
 use Rattle.vmv_enough.proofs.Lists.{none_in, first_in, further, first_or_further}
-use Rattle.vmv_enough.proofs.Entries.{entry_is}
-use Rattle.vmv_enough.proofs.Boxed.{boxes_fit, in_take}
+use Rattle.vmv_forward.proofs.Entries.{entry_is}
+use Rattle.vmv_back.proofs.Boxed.{boxes_fit, in_take}
 
 those_in : {A : Type 0} (P : A → Type 0) (xs ks : List A) (x : A) → AreThose P xs ks → Contains ks x → P x × Contains xs x
 those_in P [] ks x h there = absurd (none_in x (subst (λ ys. Contains ys x) h there))

@@ -1,14 +1,13 @@
 -- What is looked at in a program while its conditions are tightened.
-use Rattle.std.specs.Prelude.{◌≡◌, ◌↔◌, ℕ, true, false, Option, Some, None, List, [], length, map, slice_get, FitsSigned}
-use Rattle.std.specs.Int.{w64}
-use Rattle.std.specs.List.{All, Contains}
+use Rattle.std.specs.Prelude.{◌≡◌, ◌↔◌, ℕ, true, false, Option, Some, None, List, [], length, map, slice_get}
+use Rattle.std.specs.List.{Contains}
 use Rattle.vmv_tree.specs.declared.ends.NameEnds.{NameEnds}
 use Rattle.vmv_tree.specs.declared.site.NamedSite.{NamedSite}
 use Rattle.vmv_tree.specs.declared.tree.Param.{Param}
 use Rattle.vmv_snapshot.specs.Procs.{is_entry, outsides}
 use Rattle.vmv_snapshot.specs.Resolution.{Resolution, tree_of, procs_of}
 use Rattle.vmv_assumption.specs.Assumed.{Assumed}
-use Rattle.vmv_cert.specs.Tables.{IsEntry, IsSiteOf, IsBoxIn, ranges_of, Provable}
+use Rattle.vmv_cert.specs.Tables.{IsEntry, IsSiteOf, Provable}
 use Rattle.vmv_thresholds.specs.Thresholds.{AreThresholds}
 use Rattle.vmv_demands.specs.declared.demand.Demand.{Demand}
 use Rattle.vmv_demands.specs.Demands.{AreDemands}
@@ -16,13 +15,8 @@ use Rattle.vmv_demands.specs.Ends.{AreEnds}
 use Rattle.vmv_enough.specs.declared.plan.Subject.{Subject}
 use Rattle.vmv_enough.specs.declared.plan.Plan.{Plan}
 
--- the whole ranges, the thresholds and the demands of the entry of number n
+-- the thresholds and the demands of the entry of number n
 pub record IsSubject (program : Resolution) (ends : List NameEnds) (n : ℕ) (subject : Subject) : Type 0 where
-  pub params : List Param
-  pub entry : IsEntry program n params
-  pub full : subject.full ≡ ranges_of params
-  pub inside : IsBoxIn params (ranges_of params)
-  pub words : All (λ range. FitsSigned w64 range.0 × FitsSigned w64 range.1) subject.full
   pub thresholds : AreThresholds (tree_of program) n ends subject.thresholds
   pub demands : AreDemands program n subject.demands
   pub names : (d : Demand) → Contains subject.demands d → Contains (outsides (tree_of program)) d.name

@@ -1,62 +1,17 @@
-ghost use Rattle.std.specs.Prelude.{◌≡◌, ◌↔◌, ◌<◌, ◌∷◌, List, length, IsTrue, IfOk};
+ghost use Rattle.std.specs.Prelude.{◌≡◌, ◌↔◌, length, IsTrue, IfOk};
 ghost use Rattle.vmv_snapshot.specs.Resolution.{procs_of};
 ghost use Rattle.vmv_assumption.specs.Assumed.{cond_of};
-ghost use Rattle.vmv_cert.specs.declared.row.Row.{Row as Listed};
 ghost use Rattle.vmv_table_sound.specs.Told.{IsProved};
-ghost use Rattle.vmv_enough.specs.Plan.{IsSubject, IsPlace, IsPlan, IsJudged, AreJudged, AreEmpty};
+ghost use Rattle.vmv_enough.specs.Plan.{IsPlace, IsPlan, IsJudged, AreJudged, AreEmpty};
 
 use crate::plan::{Plan, Subject};
 use sqlite_items::Items;
 use std::alloc::{AllocError, Global};
-use std::marker::Brand;
-use std::sync::ledger::{Blank, Ledger};
 use vmv_assumption::Assumption;
-use vmv_cert::{Sites, Table};
-use vmv_forward::{Steps, least, least_tables_decide_proof, least_tables_have_rows};
+use vmv_cert::Sites;
+use vmv_forward::unproved_sites;
 use vmv_snapshot::{ProcId, Snapshot};
 use vmv_tree::Ends;
-
-/// The sites that the first row of a table lists.
-fn first_unproved(alloc: Global, table: &Table) -> Result<Sites, AllocError>
-    requires { 0 < length table.now.rows }
-    ensures { IfOk result (λ sites. (first : Listed) (rest : List Listed) → table.now.rows ≡ first ∷ rest → sites ≡ first.unproved) }
-{
-    let row = &table.rows.as_slice()[0];
-    Ok(Items::from_slice(alloc, row.unproved.as_slice())?)
-}
-
-/// The sites that an entry's least table doesn't prove under what is assumed.
-fn unproved_by<L: Ledger>(
-    alloc: Global,
-    base: &Snapshot,
-    entry: ProcId,
-    subject: &Subject,
-    ends: &Ends,
-    assumed: &Assumption,
-    blank: Blank,
-) -> Result<Sites, AllocError>
-    requires subject { IsSubject base.now ends.now entry.0 subject.now }
-    requires name { blank.name ≡ L.name }
-    requires parts { blank.parts ≡ L.parts }
-    requires some { 0 < blank.parts }
-    ensures { IfOk result (IsJudged base.now ends.now (cond_of assumed.now) entry.0) }
-{
-    let _ = base.program();
-    let _ = ends;
-    least_tables_have_rows();
-    least_tables_decide_proof();
-    let mut steps = Steps::<L>::open(blank);
-    let table = least(
-        alloc,
-        base,
-        entry,
-        &subject.full,
-        assumed,
-        &subject.thresholds,
-        &mut steps,
-    )?;
-    Ok(first_unproved(alloc, &table)?)
-}
 
 /// The sites of a procedure that aren't provable under what is assumed, where it is an entry.
 fn unproved(
@@ -70,16 +25,12 @@ fn unproved(
     requires { IsPlace base.now ends.now proc.0 place.now }
     ensures { IfOk result (IsJudged base.now ends.now (cond_of assumed.now) proc.0) }
 {
+    let _ = ends;
     match place {
-        Some(subject) => Ok(unproved_by::<Brand>(
-            alloc,
-            base,
-            proc,
-            subject,
-            ends,
-            assumed,
-            Blank::new(1),
-        )?),
+        Some(subject) => {
+            let sites = unproved_sites(alloc, base, proc, assumed, &subject.thresholds)?;
+            Ok(sites)
+        }
         None => Ok(Sites::new(alloc)),
     }
 }

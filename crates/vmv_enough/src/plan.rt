@@ -1,7 +1,4 @@
-ghost use Rattle.std.specs.Prelude.{◌≡◌, ◌<◌, ◌≤◌, true, Some, length, map, slice_get, IfOk, FitsSigned};
-ghost use Rattle.std.specs.Int.{w64};
-ghost use Rattle.std.specs.List.{All};
-ghost use Rattle.vmv_back.specs.Boxes.{full_box};
+ghost use Rattle.std.specs.Prelude.{◌≡◌, ◌<◌, true, Some, length, map, slice_get, IfOk};
 ghost use Rattle.vmv_snapshot.specs.Procs.{is_entry};
 ghost use Rattle.vmv_snapshot.specs.Resolution.{procs_of};
 ghost use Rattle.vmv_enough.specs.Plan.{IsSubject, IsPlace, IsPlan};
@@ -9,15 +6,13 @@ ghost use Rattle.vmv_enough.specs.Plan.{IsSubject, IsPlace, IsPlan};
 use sqlite_items::Items;
 use std::alloc::{AllocError, Global};
 use vmv_demands::{Demands, demands, ends};
-use vmv_snapshot::{ParamBox, ProcId, Snapshot};
+use vmv_snapshot::{ProcId, Snapshot};
 use vmv_thresholds::Thresholds;
-use vmv_tree::{Ends, Param};
+use vmv_tree::Ends;
 
 /// What is looked at in an entry.
 #[derive(Drop)]
 pub(crate) struct Subject {
-    /// The whole ranges of its parameters.
-    pub(crate) full: ParamBox,
     /// Its thresholds.
     pub(crate) thresholds: Thresholds,
     /// Its demands.
@@ -33,19 +28,6 @@ pub(crate) struct Plan {
     pub(crate) places: Items<Option<Subject>>,
 }
 
-/// The parameters' own ranges.
-fn full_box(params: &[Param]) -> ParamBox
-    requires { length params.now ≤ 16 }
-    ensures full { result ≡ full_box params.now }
-    ensures words { All (λ range. FitsSigned w64 range.0 × FitsSigned w64 range.1) result }
-{
-    let mut full = ParamBox::new();
-    for param in params {
-        full.push(param.lo, param.hi);
-    }
-    full
-}
-
 /// What is looked at in an entry.
 fn subject_of(
     alloc: Global,
@@ -57,11 +39,9 @@ fn subject_of(
     ensures { IfOk result (IsSubject base.now ends.now entry.0) }
 {
     let _ = base.program();
-    let full = full_box(base.params(entry).as_slice());
     let thresholds = Thresholds::of(alloc, base, entry, ends)?;
     let demands = demands(alloc, base, entry)?;
     Ok(Subject {
-        full,
         thresholds,
         demands,
     })

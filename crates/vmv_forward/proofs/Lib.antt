@@ -28,7 +28,9 @@ mod Alike
 mod Leastness
 mod Laying
 mod Listing
-pub mod FirstRows
+mod FirstRows
+pub mod Entries
+mod Deciding
 mod Unique
 mod Stepping
 mod Gathering

@@ -12,8 +12,8 @@ ghost use Rattle.vmv_forward.specs.Grow.{IsNew, IsGrownBy, IsOutside, IsStart, A
 
 use crate::callees::callees_of;
 use crate::instance::Instance;
-use crate::loops::block_loops;
 use std::alloc::{AllocError, Global};
+use vmv_check::block_loops;
 use vmv_cond::Cond;
 use vmv_snapshot::{ProcId, Snapshot};
 use vmv_zone::Zone;

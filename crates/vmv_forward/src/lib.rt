@@ -7,15 +7,16 @@
 
 mod boxes;
 mod callees;
+mod decided;
 mod grow;
 mod instance;
 mod laws;
 mod lay;
-mod loops;
 mod rounds;
 mod row;
 mod table;
 
+pub use decided::{death, least_table, unproved_sites};
 pub use laws::{
     least_tables_are_unique, least_tables_decide_death, least_tables_decide_proof,
     least_tables_have_rows,

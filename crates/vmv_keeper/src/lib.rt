@@ -32,6 +32,3 @@ pub use memory_keeper::MemoryKeeper;
 pub use project::{Bench, Benches, Held, Labels, Numbers, Project, Submitted, Version, Waiting};
 pub use reply::{PendingRow, PendingRows, Reply, VersionRow, VersionRows};
 pub use rows::Rows;
-
-#[cfg(test)]
-mod tests;

@@ -9,6 +9,3 @@ mod links;
 mod node;
 
 pub use links::{Links, Memory};
-
-#[cfg(test)]
-mod tests;

@@ -1,31 +1,19 @@
--- What a least table tells of an entry and a box.
-use Rattle.std.proofs.Common.{◌≡◌, ◌↔◌, ℕ, zero, suc, ℤ, ◌<◌, Bool, true, IsTrue, Option, Some, List, [], ◌∷◌, length, map, get_or, slice_get, sym, ap, subst, ◌∙◌, arith}
+-- The thresholds of an entry, and what its death tells of a candidate.
+use Rattle.std.proofs.Common.{◌≡◌, ◌↔◌, ℕ, zero, suc, ℤ, ◌<◌, true, Option, Some, List, [], ◌∷◌, length, map, get_or, slice_get, sym, ap, subst, ◌∙◌, arith}
 use Rattle.std.proofs.lemmas.Option.{slice_get_within, slice_get-get_or}
 use Rattle.vmv_tree.specs.declared.ends.NameEnds.{NameEnds}
 use Rattle.vmv_tree.specs.Tree.{Item, entry}
 use Rattle.vmv_snapshot.specs.Procs.{is_entry}
-use Rattle.vmv_snapshot.specs.Resolution.{Resolution, IsResolution, tree_of, procs_of}
+use Rattle.vmv_snapshot.specs.Resolution.{Resolution, tree_of, procs_of}
 use Rattle.vmv_assumption.specs.Assumed.{Assumed}
 use Rattle.vmv_assumption.specs.Change.{IsKept}
-use Rattle.vmv_cert.specs.declared.row.Row.{Row}
-use Rattle.vmv_cert.specs.declared.row.Reach.TheVariants.{Bottom}
 use Rattle.vmv_cert.specs.Tables.{Box, Dead}
 use Rattle.vmv_thresholds.specs.Thresholds.{AreThresholds}
 use Rattle.vmv_need.specs.declared.subject.Scope.{Scope}
 use Rattle.vmv_need.specs.declared.candidate.Candidate.{Candidate}
 use Rattle.vmv_need.specs.Acts.{Meets, Acts}
-use Rattle.vmv_need.specs.Plan.{HaveThresholds, IsEntryWithin, IsTold}
+use Rattle.vmv_need.specs.Plan.{HaveThresholds, IsEntryWithin}
 use Rattle.vmv_need.proofs.Kept.{kept_once}
-use Rattle.vmv_need.proofs.TableLaws.{death_told, some_row}
-
--- the first row of the least table tells whether the entry is dead
-pub death_is : (program : Resolution) (n : ℕ) (box : Box) (ends : List NameEnds) (assumed : Assumed) (rows seen : List Row) (dead : Bool) → IsResolution program → IsEntryWithin program n box →
-    IsTold program n box ends assumed rows → seen ≡ rows → ((first : Row) (rest : List Row) → seen ≡ first ∷ rest → IsTrue dead ↔ (first.result ≡ Bottom)) → IsTrue dead ↔ Dead program n box ends assumed
-death_is program n box ends assumed rows seen dead is within told same tells =
-    let row = some_row program n box ends assumed rows told.least in
-    let one = tells row.0 row.1 (same ∙ row.2) in
-    let law = death_told program n box ends assumed within.0 rows row.0 row.1 is within.1 within.2 told.least told.accepted told.thresholds row.2 in
-    ((λ d. law.1 (one.0 d)), (λ d. one.1 (law.0 d)))
 
 map_entry : (items : List Item) (n : ℕ) (item : Item) → slice_get items n ≡ Some item → slice_get (map is_entry items) n ≡ Some (is_entry item)
 map_entry [] n item e = absurd (cc)

@@ -21,7 +21,7 @@ use Rattle.vmv_need.specs.declared.candidate.Candidate.{Candidate}
 use Rattle.vmv_need.specs.Candidates.{only, pieces_of, entries_from, IsScopeOf, of_demand, of_box, of_subject, candidates_of, places_in, places_of}
 use Rattle.vmv_need.specs.Plan.{IsEntryWithin}
 use Rattle.vmv_need.proofs.Lists.{none_in, first_in, later_in, first_or_later}
-use Rattle.vmv_need.proofs.Boxed.{boxes_fit, few_boxes}
+use Rattle.vmv_back.proofs.Boxed.{boxes_fit, few_boxes}
 use Rattle.vmv_need.proofs.TableLaws.{demands_are_few, demands_are_of_outsides}
 
 in_map : {A B : Type 0} (f : A → B) (xs : List A) (y : B) → Contains (map f xs) y → (x : A) × Contains xs x × (f x ≡ y)

@@ -10,7 +10,6 @@ pub mod Existing
 pub mod Scopes
 pub mod First
 pub mod Pieces
-pub mod Boxed
 pub mod Fit
 pub mod Deaths
 pub mod Pushed

@@ -8,8 +8,7 @@ use Rattle.vmv_cond.specs.declared.cond.Cond.{Cond}
 use Rattle.vmv_snapshot.specs.Procs.{outsides, is_entry}
 use Rattle.vmv_snapshot.specs.Resolution.{Resolution, IsResolution, tree_of, procs_of}
 use Rattle.vmv_assumption.specs.Assumed.{Assumed, names_of}
-use Rattle.vmv_cert.specs.declared.row.Row.{Row}
-use Rattle.vmv_cert.specs.Tables.{Accepted, HasThresholds, Box, IsEntry, IsBoxIn}
+use Rattle.vmv_cert.specs.Tables.{Box, IsEntry, IsBoxIn}
 use Rattle.vmv_back.specs.Boxes.{AreBoxes}
 use Rattle.vmv_demands.specs.Demands.{AreDemands}
 use Rattle.vmv_thresholds.specs.Thresholds.{AreThresholds}
@@ -70,12 +69,6 @@ pub record AreJudged (acts : Candidate → Type 0) (cs : List Candidate) (answer
 -- no more exclusions are recorded than there are candidates
 abbrev pub HasRoom : Plan → List Cut → Type 0
 HasRoom plan cuts = length cuts ≤ length plan.candidates.items
-
--- the table is accepted, has threshold states, and is least
-pub record IsTold (program : Resolution) (n : ℕ) (box : Box) (ends : List NameEnds) (assumed : Assumed) (rows : List Row) : Type 0 where
-  pub accepted : Accepted program assumed rows
-  pub thresholds : HasThresholds program n ends rows
-  pub least : IsLeastTable program n box ends assumed rows
 
 -- the first entry and box from which it doesn't return, with its least table
 abbrev pub IsFirstDoomed : Resolution → Scope → Assumed → ShownBy → Type 0

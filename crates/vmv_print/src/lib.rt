@@ -10,6 +10,3 @@ mod statement;
 
 pub use laws::{canonical_text_has_no_fault, canonical_text_is_read, program_of_a_text_is_written};
 pub use printing::{print, print_program};
-
-#[cfg(test)]
-mod tests;

@@ -6,6 +6,7 @@ pub mod Listing
 pub mod Reporting
 pub mod Relating
 pub mod Saying
+pub mod Counting
 pub mod Telling
 pub mod Sufficing
 pub mod Tightening

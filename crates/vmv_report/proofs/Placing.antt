@@ -1,7 +1,7 @@
 -- Places of rows, and how they stand to one another.
 use Rattle.std.proofs.Common.{◌≡◌, ◌⊎◌, inl, inr, ⊎_elim, ℕ, zero, suc, ◌+◌, ◌<◌, ◌≤◌, true, false, Some, List, length, map, slice_get, refl, sym, ap, subst, arith, ◌∙◌}
 use Rattle.vmv_tree.specs.declared.tree.Param.{Param}
-use Rattle.vmv_tree.specs.Tree.{Item, outside, helper, entry}
+use Rattle.vmv_tree.specs.Tree.{entry}
 use Rattle.vmv_snapshot.specs.Procs.{is_entry}
 use Rattle.vmv_snapshot.specs.Reaches.{Reaches}
 use Rattle.vmv_snapshot.specs.Resolution.{Resolution, tree_of, procs_of}
@@ -9,6 +9,7 @@ use Rattle.vmv_snapshot.specs.Tables.{body_sites}
 use Rattle.vmv_snapshot.proofs.Links.{map_at}
 use Rattle.vmv_cert.specs.Tables.{IsEntry}
 use Rattle.vmv_check.proofs.Lists.{some_same, within}
+use Rattle.vmv_forward.proofs.Entries.{some_entry}
 use Rattle.vmv_report.specs.Rows.{Place, IsPlace, IsBefore}
 use Rattle.vmv_report.specs.Work.{at}
 
@@ -17,15 +18,6 @@ below_or_same zero zero h = inr refl
 below_or_same zero (suc k) h = inl (omega arith)
 below_or_same (suc i) zero h = absurd (omega (arith, h))
 below_or_same (suc i) (suc k) h = ⊎_elim (λ (l : i < k). inl (omega (arith, l))) (λ (e : i ≡ k). inr (ap suc e)) (below_or_same i k (omega (arith, h)))
-
--- the procedure of a number with the mark of an entry is one
-pub entry_is : (program : Resolution) (n : ℕ) → slice_get (map is_entry (procs_of program)) n ≡ Some true → (params : List Param) × IsEntry program n params
-entry_is program n marked = let x = map_at is_entry (procs_of program) n true marked in of_item x.0 x.1 x.2
-  where
-    of_item : (item : Item) → slice_get (procs_of program) n ≡ Some item → is_entry item ≡ true → (params : List Param) × IsEntry program n params
-    of_item (outside f arity) e m = absurd (cc)
-    of_item (helper f params body) e m = absurd (cc)
-    of_item (entry f params body) e m = (params, (f, body, e))
 
 -- a procedure of another mark is no entry
 pub no_entry_is : (program : Resolution) (n : ℕ) (params : List Param) → slice_get (map is_entry (procs_of program)) n ≡ Some false → IsEntry program n params → ⊥
@@ -53,7 +45,7 @@ site_within program p m last is count e =
 pub place_is : (program : Resolution) (n m k count : ℕ) → slice_get (map is_entry (procs_of program)) n ≡ Some true → slice_get (map body_sites (procs_of program)) m ≡ Some count → Reaches (tree_of program) n m →
     1 ≤ k → k ≤ count → IsPlace program (at n m k)
 place_is program n m k count marked counted reached from to =
-    let e = entry_is program n marked in
+    let e = some_entry program n marked in
     let x = map_at body_sites (procs_of program) m count counted in
     let last = x.2 in
     record { params = e.0; entry = e.1; item = x.0; proc = x.1; reached = reached; from = from; to = omega (arith, to, last) }

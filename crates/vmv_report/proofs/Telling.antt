@@ -18,15 +18,16 @@ use Rattle.vmv_report.specs.declared.class.Class.TheVariants.{Clean, Hidden, Reg
 use Rattle.vmv_report.specs.declared.row.ReportRow.{ReportRow}
 use Rattle.vmv_report.specs.declared.proving.EntrySites.{EntrySites}
 use Rattle.vmv_report.specs.declared.told.Told.{Told}
-use Rattle.vmv_report.specs.Rows.{named_site, IsPlace, place_of, Review, IsAlwaysProvable, IsRelativelyProvable, IsOfClass, is_class, RegressesBy, StaysBy, IsFoundAt, IsWitnessBy}
+use Rattle.vmv_report.specs.Rows.{named_site, Place, IsPlace, place_of, regression_count, Review, IsAlwaysProvable, IsRelativelyProvable, IsOfClass, is_class, RegressesBy, StaysBy, IsFoundAt, IsWitnessBy}
 use Rattle.vmv_report.specs.Work.{at, AreFoundBy, AreSitesFor, IsInBoth, IsToldClass, IsNextRun, IsNoRun, IsToldBefore}
 use Rattle.vmv_report.proofs.Gathering.{no_rows, one_row}
+use Rattle.vmv_report.proofs.Counting.{other_counted, one_counted}
 
 none_in : {X : Type 0} (x : X) → Contains [] x → ⊥
 none_in x (k, within, is) = absurd (omega (arith, within))
 
-pub no_told : (review : Review) (told : Told) → told.rows ≡ [] → told.witnesses ≡ [] → IsToldBefore review (at 0 0 1) told
-no_told review told rows runs = record {
+pub no_told : (review : Review) (told : Told) → told.rows ≡ [] → told.witnesses ≡ [] → told.regressions ≡ 0 → IsToldBefore review (at 0 0 1) told
+no_told review told rows runs none = record {
   rows = no_rows review told.rows rows;
   witnesses =
       let R = IsWitnessBy review.revision review.enough in
@@ -34,12 +35,13 @@ no_told review told rows runs = record {
       let P : List ReportRow → Type 0 = λ rs. AllZip R (filter p rs) told.witnesses in
       let Q : List Witness → Type 0 = λ ws. AllZip R [] ws in
       subst P (sym rows) (subst Q (sym runs) tt);
+  counted = none ∙ ap (regression_count 0) (sym rows);
 }
 
 -- one more row that is no regression, with no more runs
-pub one_told : (review : Review) (n m k : ℕ) (row : ReportRow) (old new : Told) → new.rows ≡ old.rows ++ row ∷ [] → new.witnesses ≡ old.witnesses → place_of row ≡ at n m k → IsPlace review.revision (at n m k) →
+pub one_told : (review : Review) (n m k : ℕ) (row : ReportRow) (old new : Told) → new.rows ≡ old.rows ++ row ∷ [] → new.witnesses ≡ old.witnesses → new.regressions ≡ old.regressions → place_of row ≡ at n m k → IsPlace review.revision (at n m k) →
     IsOfClass review old.rows row row.class → is_class Regression row.class ≡ false → IsToldBefore review (at n m k) old → IsToldBefore review (at n m (k + 1)) new
-one_told review n m k row old new grown same here is class other before = record {
+one_told review n m k row old new grown same count here is class other before = record {
   rows = one_row review n m k row old.rows new.rows grown here is class before.rows;
   witnesses =
       let R = IsWitnessBy review.revision review.enough in
@@ -49,12 +51,13 @@ one_told review n m k row old new grown same here is class other before = record
       let P : List ReportRow → Type 0 = λ rs. AllZip R rs new.witnesses in
       let Q : List Witness → Type 0 = λ ws. AllZip R (filter p old.rows) ws in
       subst P (sym e) (subst Q (sym same) before.witnesses);
+  counted = count ∙ before.counted ∙ sym (other_counted n row old.rows new.rows grown other);
 }
 
 -- one more regression, with its run
-pub one_more_run : (review : Review) (n m k : ℕ) (row : ReportRow) (w : Witness) (old new : Told) → new.rows ≡ old.rows ++ row ∷ [] → new.witnesses ≡ old.witnesses ++ w ∷ [] → place_of row ≡ at n m k → IsPlace review.revision (at n m k) →
+pub one_more_run : (review : Review) (n m k : ℕ) (row : ReportRow) (w : Witness) (old new : Told) → new.rows ≡ old.rows ++ row ∷ [] → new.witnesses ≡ old.witnesses ++ w ∷ [] → new.regressions ≡ old.regressions + 1 → place_of row ≡ at n m k → IsPlace review.revision (at n m k) →
     IsOfClass review old.rows row row.class → is_class Regression row.class ≡ true → IsWitnessBy review.revision review.enough row w → IsToldBefore review (at n m k) old → IsToldBefore review (at n m (k + 1)) new
-one_more_run review n m k row w old new grown more here is class regression run before = record {
+one_more_run review n m k row w old new grown more count here is class regression run before = record {
   rows = one_row review n m k row old.rows new.rows grown here is class before.rows;
   witnesses =
       let R = IsWitnessBy review.revision review.enough in
@@ -64,6 +67,7 @@ one_more_run review n m k row w old new grown more here is class regression run 
       let P : List ReportRow → Type 0 = λ rs. AllZip R rs new.witnesses in
       let Q : List Witness → Type 0 = λ ws. AllZip R (filter p old.rows ++ row ∷ []) ws in
       subst P (sym e) (subst Q (sym more) (all_zipped_more R (filter p old.rows) old.witnesses row w before.witnesses run));
+  counted = count ∙ ap (λ c. c + 1) before.counted ∙ sym (one_counted n row old.rows new.rows grown (ap (λ (p : Place). p.entry) here) regression);
 }
 
 moved : (review : Review) (a : Assumed) (n : ℕ) (x y : NamedSite) → x ≡ y → Provable review.revision n review.ends a x → Provable review.revision n review.ends a y
@@ -97,7 +101,7 @@ neither review sites row are both =
 
 -- the next run makes the row a regression
 pub run_is : (revision : Resolution) (enough : Option (List (Name × Cond))) (found : List Witness) (before : List ReportRow) (row : ReportRow) (w : Witness) → AreFoundBy revision enough row.entry.0 found →
-    IsNextRun before found row.entry.0 (named_site revision row.site) w → RegressesBy revision enough before row × IsWitnessBy revision enough row w
+    IsNextRun (regression_count row.entry.0 before) found (named_site revision row.site) w → RegressesBy revision enough before row × IsWitnessBy revision enough row w
 run_is revision None found before row w are next =
     let P : List Witness → Type 0 = λ ws. Contains ws w in absurd (none_in w (subst P are next.0))
 run_is revision (Some held) found before row w are next =
@@ -106,7 +110,7 @@ run_is revision (Some held) found before row w are next =
 
 -- without a next run it is an alarm
 pub stays : (revision : Resolution) (enough : Option (List (Name × Cond))) (found : List Witness) (before : List ReportRow) (row : ReportRow) → AreFoundBy revision enough row.entry.0 found →
-    IsNoRun before found row.entry.0 (named_site revision row.site) → StaysBy revision enough before row
+    IsNoRun (regression_count row.entry.0 before) found (named_site revision row.site) → StaysBy revision enough before row
 stays revision None found before row are none = tt
 stays revision (Some held) found before row are none =
     ⊎_elim
@@ -114,20 +118,20 @@ stays revision (Some held) found before row are none =
     (λ many. inr many)
     none
 
--- what is found of lists and sites that are the same
-pub next_is : (n : ℕ) {rows rows' : List ReportRow} {found found' : List Witness} {site site' : NamedSite} {w w' : Witness} → rows ≡ rows' → found ≡ found' → site ≡ site' → w ≡ w' → IsNextRun rows found n site w → IsNextRun rows' found' n site' w'
-next_is n {rows} {rows'} {found} {found'} {site} {site'} {w} {w'} e f s v next =
-    let P : List ReportRow → Type 0 = λ it. IsNextRun it found n site w in
-    let Q : List Witness → Type 0 = λ it. IsNextRun rows' it n site w in
-    let R : NamedSite → Type 0 = λ it. IsNextRun rows' found' n it w in
-    let S : Witness → Type 0 = λ it. IsNextRun rows' found' n site' it in
+-- what is found of counts, lists and sites that are the same
+pub next_is : {count count' : ℕ} {found found' : List Witness} {site site' : NamedSite} {w w' : Witness} → count ≡ count' → found ≡ found' → site ≡ site' → w ≡ w' → IsNextRun count found site w → IsNextRun count' found' site' w'
+next_is {count} {count'} {found} {found'} {site} {site'} {w} {w'} e f s v next =
+    let P : ℕ → Type 0 = λ it. IsNextRun it found site w in
+    let Q : List Witness → Type 0 = λ it. IsNextRun count' it site w in
+    let R : NamedSite → Type 0 = λ it. IsNextRun count' found' it w in
+    let S : Witness → Type 0 = λ it. IsNextRun count' found' site' it in
     subst S v (subst R s (subst Q f (subst P e next)))
 
-pub none_is : (n : ℕ) {rows rows' : List ReportRow} {found found' : List Witness} {site site' : NamedSite} → rows ≡ rows' → found ≡ found' → site ≡ site' → IsNoRun rows found n site → IsNoRun rows' found' n site'
-none_is n {rows} {rows'} {found} {found'} {site} {site'} e f s none =
-    let P : List ReportRow → Type 0 = λ it. IsNoRun it found n site in
-    let Q : List Witness → Type 0 = λ it. IsNoRun rows' it n site in
-    let R : NamedSite → Type 0 = λ it. IsNoRun rows' found' n it in
+pub none_is : {count count' : ℕ} {found found' : List Witness} {site site' : NamedSite} → count ≡ count' → found ≡ found' → site ≡ site' → IsNoRun count found site → IsNoRun count' found' site'
+none_is {count} {count'} {found} {found'} {site} {site'} e f s none =
+    let P : ℕ → Type 0 = λ it. IsNoRun it found site in
+    let Q : List Witness → Type 0 = λ it. IsNoRun count' it site in
+    let R : NamedSite → Type 0 = λ it. IsNoRun count' found' it in
     subst R s (subst Q f (subst P e none))
 
 pub on_ok : {A E P Q : Type 0} (r : Result A E) → OnOk r P → (P → Q) → OnOk r Q

@@ -3,19 +3,16 @@ use Rattle.std.specs.Prelude.{◌≡◌, ◌≢◌, ◌↔◌, ◌⊎◌, ◌<�
 use Rattle.std.specs.List.{All, AllPairs, Contains}
 use Rattle.vmv_tree.specs.declared.ends.NameEnds.{NameEnds}
 use Rattle.vmv_tree.specs.declared.site.NamedSite.{NamedSite}
-use Rattle.vmv_tree.specs.declared.tree.Param.{Param}
 use Rattle.vmv_snapshot.specs.Resolution.{Resolution, IsResolution, procs_of}
 use Rattle.vmv_assumption.specs.Whole.{whole}
 use Rattle.vmv_assumption.specs.Assumed.{Assumed, cond_of}
-use Rattle.vmv_cert.specs.declared.row.Row.{Row}
-use Rattle.vmv_cert.specs.Tables.{Box, IsEntry, IsBoxIn, Accepted, HasThresholds, Provable, ranges_of}
+use Rattle.vmv_cert.specs.Tables.{Provable}
 use Rattle.vmv_tree.specs.declared.name.Name.{Name}
 use Rattle.vmv_cond.specs.declared.cond.Cond.{Cond}
 use Rattle.vmv_witness.specs.declared.witness.Witness.{Witness}
 use Rattle.vmv_enough.specs.Enough.{NoneEmpty}
 use Rattle.vmv_enough.specs.Failures.{IsCounterexample}
 use Rattle.vmv_enough.specs.Found.{AreFound}
-use Rattle.vmv_forward.specs.Least.{IsLeastTable}
 use Rattle.vmv_need.specs.declared.shown.ShownBy.{ShownBy}
 use Rattle.vmv_need.specs.declared.shown.ShownBy.TheVariants.{EmptyName, Doomed}
 use Rattle.vmv_report.specs.declared.class.Class.{Class}
@@ -48,19 +45,6 @@ pub record IsReady (j : Judging) : Type 0 where
   pub whole : (cond_of j.whole.now) ≡ (λ name. whole)
   pub nonempty : (held : List (Name × Cond)) → j.enough.now ≡ Some held → NoneEmpty j.revision.now (cond_of held)
 
--- the procedure of this number is an entry, and the box has its parameters' ranges, none of which is empty
-pub record IsWholeBox (program : Resolution) (n : ℕ) (box : Box) : Type 0 where
-  pub params : List Param
-  pub entry : IsEntry program n params
-  pub ranges : box ≡ ranges_of params
-  pub fits : IsBoxIn params box
-
--- the table is accepted, has threshold states, and is least
-pub record IsTold (program : Resolution) (n : ℕ) (box : Box) (ends : List NameEnds) (assumed : Assumed) (rows : List Row) : Type 0 where
-  pub accepted : Accepted program assumed rows
-  pub thresholds : HasThresholds program n ends rows
-  pub least : IsLeastTable program n box ends assumed rows
-
 -- the list has the sites that aren't provable for the entry of this number
 abbrev pub AreUnproved : Resolution → ℕ → List NameEnds → Assumed → List NamedSite → Type 0
 AreUnproved program n ends assumed sites = (site : NamedSite) → Provable program n ends assumed site ↔ (Contains sites site → ⊥)
@@ -90,12 +74,12 @@ IsToldClass sites site (Some Alarm) = ⊥
 IsToldClass sites site None = IsInBoth sites site
 
 -- the run fails at the site, and fewer than 8 rows are regressions of the entry
-abbrev pub IsNextRun : List ReportRow → List Witness → ℕ → NamedSite → Witness → Type 0
-IsNextRun rows found n site w = Contains found w × (w.site ≡ site) × (regression_count n rows < 8)
+abbrev pub IsNextRun : ℕ → List Witness → NamedSite → Witness → Type 0
+IsNextRun regressions found site w = Contains found w × (w.site ≡ site) × (regressions < 8)
 
 -- no run fails at the site, or 8 rows are regressions of the entry
-abbrev pub IsNoRun : List ReportRow → List Witness → ℕ → NamedSite → Type 0
-IsNoRun rows found n site = ((w : Witness) → Contains found w → w.site ≢ site) ⊎ (8 ≤ regression_count n rows)
+abbrev pub IsNoRun : ℕ → List Witness → NamedSite → Type 0
+IsNoRun regressions found site = ((w : Witness) → Contains found w → w.site ≢ site) ⊎ (8 ≤ regressions)
 
 -- one row for each place before this one, in order, each of its class
 pub record AreRowsBefore (review : Review) (bound : Place) (rows : List ReportRow) : Type 0 where
@@ -104,10 +88,11 @@ pub record AreRowsBefore (review : Review) (bound : Place) (rows : List ReportRo
   pub in_order : AllPairs (λ a b. IsBefore (place_of a) (place_of b)) rows
   pub classes : (before after : List ReportRow) (row : ReportRow) → rows ≡ before ++ row ∷ after → IsOfClass review before row row.class
 
--- these rows, with a run for each regression
+-- these rows, with a run for each regression, and how many of them are regressions of the entry
 pub record IsToldBefore (review : Review) (bound : Place) (told : Told) : Type 0 where
   pub rows : AreRowsBefore review bound told.rows
   pub witnesses : AreWitnesses review told.rows told.witnesses
+  pub counted : told.regressions ≡ regression_count bound.entry told.rows
 
 abbrev pub at : ℕ → ℕ → ℕ → Place
 at entry proc index = record { entry = entry; proc = proc; index = index }

@@ -83,7 +83,11 @@ fn review(
 {
     let conditions = needed.copy(alloc)?;
     let sufficient = copied(alloc, enough)?;
-    let Told { rows, witnesses } = judged_rows(alloc, base, revision, needed, enough)?;
+    let Told {
+        rows,
+        witnesses,
+        ..
+    } = judged_rows(alloc, base, revision, needed, enough)?;
     Ok(Report {
         verdict: verdict_of(rows.as_slice()),
         conditions: Some(conditions),

@@ -33,11 +33,12 @@ fn add_unproved(
     let proc = judging.revision.proc_name(site.proc);
     let index = site.index;
     let named = NamedSite { proc, index };
-    match next_run(told.rows.as_slice(), sites.found.as_slice(), entry, &named) {
+    match next_run(told.regressions, sites.found.as_slice(), &named) {
         Some(w) => {
             let run = copy_run(alloc, w)?;
             let class = Class::Regression;
             told.witnesses.push(run)?;
+            told.regressions += 1;
             told.rows.push(ReportRow { entry, site, class })
         }
         None => {
@@ -131,6 +132,7 @@ fn add_procs(
     for number in 0..judging.revision.proc_count() {
         add_proc(alloc, told, judging, sites, entry, number)?;
     }
+    told.regressions = 0;
     Ok(())
 }
 
@@ -163,6 +165,7 @@ pub(crate) fn all_rows(alloc: Global, judging: &Judging<'_>) -> Result<Told, All
     let mut told = Told {
         rows: Items::new(alloc),
         witnesses: Items::new(alloc),
+        regressions: 0,
     };
     for number in 0..judging.revision.proc_count() {
         add_entry(alloc, &mut told, judging, number)?;

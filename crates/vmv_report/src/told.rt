@@ -1,17 +1,13 @@
-ghost use Rattle.std.specs.Prelude.{◌≡◌, ◌≢◌, ◌↔◌, IfOk, IfSome, IfNone, IsTrue};
+ghost use Rattle.std.specs.Prelude.{◌≡◌, ◌≢◌, IfOk, IfSome, IfNone};
 ghost use Rattle.std.specs.List.{Contains};
 ghost use Rattle.vmv_witness.specs.declared.witness.Witness.{Witness as Shown};
-ghost use Rattle.vmv_report.specs.Rows.{regression_count};
 ghost use Rattle.vmv_report.specs.Work.{IsNextRun, IsNoRun};
 
-use crate::class::Class;
 use crate::proving::is_same;
 use crate::report::Witnesses;
-use crate::row::{ReportRow, ReportRows};
-use crate::row_texts::is_class;
+use crate::row::ReportRows;
 use sqlite_items::Items;
 use std::alloc::{AllocError, Global};
-use vmv_snapshot::ProcId;
 use vmv_tree::NamedSite;
 use vmv_witness::Witness;
 
@@ -25,15 +21,8 @@ pub(crate) struct Told {
     pub(crate) rows: ReportRows,
     /// The runs.
     pub(crate) witnesses: Witnesses,
-}
-
-/// How many rows are regressions of the entry.
-fn regression_count(rows: &[ReportRow], entry: ProcId) -> usize
-    ensures { result ≡ regression_count entry.0 rows.now }
-{
-    rows.iter()
-        .filter(|row| row.entry.0 == entry.0 && is_class(Class::Regression, row.class))
-        .count()
+    /// How many of the rows are regressions of the entry whose rows come next.
+    pub(crate) regressions: usize,
 }
 
 /// The run that fails at the site.
@@ -49,17 +38,16 @@ fn found_at<'a>(found: &'a [Witness], site: &NamedSite) -> Option<&'a Witness>
     None
 }
 
-/// The run that makes the next row a regression.
+/// The run that makes the next row a regression, where so many rows are regressions of its entry.
 pub(crate) fn next_run<'a>(
-    rows: &[ReportRow],
+    regressions: usize,
     found: &'a [Witness],
-    entry: ProcId,
     site: &NamedSite,
 ) -> Option<&'a Witness>
-    ensures some { IfSome result (λ w. IsNextRun rows.now found.now entry.0 site.now w.now) }
-    ensures none { IfNone result (IsNoRun rows.now found.now entry.0 site.now) }
+    ensures some { IfSome result (λ w. IsNextRun regressions found.now site.now w.now) }
+    ensures none { IfNone result (IsNoRun regressions found.now site.now) }
 {
-    if regression_count(rows, entry) >= MOST_REGRESSIONS {
+    if regressions >= MOST_REGRESSIONS {
         return None;
     }
     found_at(found, site)

@@ -21,6 +21,3 @@ pub use code::{
 pub use fault::NewFault;
 pub use param_box::ParamBox;
 pub use snapshot::Snapshot;
-
-#[cfg(test)]
-mod tests;

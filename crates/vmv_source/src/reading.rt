@@ -51,6 +51,3 @@ pub fn parse(alloc: Global, text: &[u8]) -> Result<Snapshot, TextFault>
         Err(NewFault::Memory) => Err(TextFault::Memory),
     }
 }
-
-#[cfg(test)]
-mod tests;

@@ -11,3 +11,4 @@ pub mod Entering
 pub mod EnterPoints
 pub mod Asking
 pub mod Arguments
+pub mod Normed

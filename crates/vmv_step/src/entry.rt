@@ -109,7 +109,7 @@ fn with_row(zone: Zone, input: &Zone, declared: u8, top: &Zone, i: u8) -> Zone
 {
     let mut row = zone;
     for j in 0..zone.vars() + 1 {
-        row = row.with_bound(i, j, bound_between(input, declared, top, i, j));
+        row.set_bound(i, j, bound_between(input, declared, top, i, j));
     }
     row
 }
@@ -145,7 +145,7 @@ fn with_marks(zone: Zone, input: &Zone) -> Zone
     let mut marked = zone;
     for i in 1..input.vars() + 1 {
         if input.marked(i) {
-            marked = marked.with_mark(i);
+            marked.set_mark(i);
         }
     }
     marked

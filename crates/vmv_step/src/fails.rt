@@ -121,36 +121,42 @@ fn may_fail(before: &Zone, op: ZoneOp, left: ZoneOperand, right: ZoneOperand) ->
     }
 }
 
-/// Whether the operation may fail in the state.
-pub(crate) fn arith_unproved(zone: Zone, op: ZoneOp, left: ZoneOperand, right: ZoneOperand) -> bool
-    requires left { IsOperand (vars_of zone) left }
-    requires right { IsOperand (vars_of zone) right }
-    ensures { TellsArith op zone left right result }
+/// Whether the operation may fail in the normal state, Bottom too.
+pub(crate) fn arith_unproved(
+    before: &Zone,
+    op: ZoneOp,
+    left: ZoneOperand,
+    right: ZoneOperand,
+) -> bool
+    requires normal { IsNormal before.now }
+    requires left { IsOperand (vars_of before.now) left }
+    requires right { IsOperand (vars_of before.now) right }
+    ensures { TellsArith op before.now left right result }
 {
-    let before = zone.norm();
     if before.is_bottom() {
         return false;
     }
-    may_fail(&before, op, left, right)
+    may_fail(before, op, left, right)
 }
 
-/// Whether the test may fail in the state.
-pub(crate) fn test_unproved(zone: Zone, test: ZoneTest) -> bool
-    requires left { IsOperand (vars_of zone) test.left }
-    requires right { IsOperand (vars_of zone) test.right }
-    ensures { TellsTest test zone result }
+/// Whether the test may fail in the normal state.
+pub(crate) fn test_unproved(before: &Zone, test: ZoneTest) -> bool
+    requires normal { IsNormal before.now }
+    requires left { IsOperand (vars_of before.now) test.left }
+    requires right { IsOperand (vars_of before.now) test.right }
+    ensures { TellsTest test before.now result }
 {
-    !zone.guard(negation(test)).is_bottom()
+    !before.guard_normed(negation(test)).is_bottom()
 }
 
-/// Whether the bound may be above the cap in the state.
-pub(crate) fn bound_unproved(zone: Zone, bound: ZoneOperand, cap: i64) -> bool
-    requires { IsOperand (vars_of zone) bound }
-    ensures { TellsBound bound cap zone result }
+/// Whether the bound may be above the cap in the normal state.
+pub(crate) fn bound_unproved(before: &Zone, bound: ZoneOperand, cap: i64) -> bool
+    requires normal { IsNormal before.now }
+    requires bound { IsOperand (vars_of before.now) bound }
+    ensures { TellsBound bound cap before.now result }
 {
-    let before = zone.norm();
     if before.is_bottom() {
         return false;
     }
-    ends_of(&before, bound).hi > cap
+    ends_of(before, bound).hi > cap
 }

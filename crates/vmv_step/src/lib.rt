@@ -26,6 +26,3 @@ pub use passing::pass;
 pub use repeat::{again, head, leave, turn};
 pub use simple::{branch, step};
 pub use stepped::Stepped;
-
-#[cfg(test)]
-mod tests;

@@ -21,11 +21,12 @@ pub fn head(repeat: &CodeRepeat, zone: Zone) -> Stepped
     ensures { IsHead repeat.now.index repeat.now.slot repeat.now.bound repeat.now.cap zone result }
 {
     let bound = zone_operand(repeat.bound);
-    let capped = zone.guard(at_most(bound, ZoneOperand::Lit(repeat.cap)));
-    let copied = capped.assign(repeat.slot.0, ZoneValue::Copy(bound));
+    let before = zone.norm();
+    let capped = before.guard_normed(at_most(bound, ZoneOperand::Lit(repeat.cap)));
+    let copied = capped.assign_normed(repeat.slot.0, ZoneValue::Copy(bound));
     Stepped {
-        zone: copied.assign(repeat.index.0, ZoneValue::Copy(ZoneOperand::Lit(0))),
-        unproved: bound_unproved(zone, bound, repeat.cap),
+        zone: copied.assign_normed(repeat.index.0, ZoneValue::Copy(ZoneOperand::Lit(0))),
+        unproved: bound_unproved(&before, bound, repeat.cap),
     }
 }
 

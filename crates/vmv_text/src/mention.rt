@@ -50,6 +50,3 @@ pub fn mention_place(text: &[u8], mention: u32) -> Option<(u32, u32)>
     let front = &text[..text.len() - cursor.left()];
     Some((line(front), column(front)))
 }
-
-#[cfg(test)]
-mod tests;

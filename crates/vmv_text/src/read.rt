@@ -88,6 +88,3 @@ pub fn read_program(alloc: Global, text: &[u8]) -> Result<Program, ReadFault>
         }),
     }
 }
-
-#[cfg(test)]
-mod tests;

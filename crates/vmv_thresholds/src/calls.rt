@@ -5,10 +5,10 @@ ghost use Rattle.vmv_snapshot.specs.Resolution.{tree_of, procs_of};
 ghost use Rattle.vmv_cert.specs.Thresholds.{ReachesOutside};
 ghost use Rattle.vmv_thresholds.specs.Collect.{CallsFrom};
 
-use crate::names::is_among;
 use crate::place::place_of;
 use vmv_snapshot::{ProcId, Snapshot};
 use vmv_tree::{Item, Name, Stmt};
+use vmv_valid::is_among;
 
 /// Whether the two are one name.
 fn is_name(one: &Name, other: &Name) -> bool

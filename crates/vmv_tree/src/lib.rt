@@ -17,6 +17,3 @@ pub use site::NamedSite;
 pub use tree::{
     Args, Block, Body, Item, Items, Names, Op, Operand, Param, Params, Program, Rel, Stmt, Test,
 };
-
-#[cfg(test)]
-mod tests;

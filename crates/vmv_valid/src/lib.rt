@@ -16,4 +16,6 @@ mod statement;
 mod stop;
 
 pub use first::first_defect;
+pub use names::is_among;
+pub use numbers::reached_numbers;
 pub use stop::FoundDefect;

@@ -141,9 +141,10 @@ fn range_ends(alloc: Global, params: &[Param]) -> Result<Vec<i64>, AllocError>
     Ok(ends)
 }
 
-/// The numbers of an entry and of the helpers that it reaches, each helper once.
+/// The literals, caps and range ends of an entry and of the helpers that it reaches among the items above it, each helper
+/// once. A number may stand there more than once. It fails for want of memory alone.
 #[tactic(auto, using(crate::proofs::Walking::walking))]
-fn reached_numbers(
+pub fn reached_numbers(
     alloc: Global,
     above: &[Item],
     params: &[Param],

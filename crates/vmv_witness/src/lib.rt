@@ -16,6 +16,3 @@ pub use laws::{a_text_departs_once, a_text_is_of_one_witness};
 pub use read::read_witness;
 pub use witness::{ParamValue, Values, Witness};
 pub use write::write_witness;
-
-#[cfg(test)]
-mod tests;

@@ -4,6 +4,9 @@ pub mod Places
 pub mod Turns
 pub mod Zeros
 pub mod States
+pub mod Settling
+pub mod Normed
+pub mod Rows
 pub mod Closing
 pub mod Confining
 pub mod Operands

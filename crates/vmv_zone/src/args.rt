@@ -17,7 +17,8 @@ impl Zone {
         requires operands { AreOperands (vars_of self.now) args.now }
         ensures { IsArgsOf self.now args.now result }
     {
-        let before = self.norm();
+        let mut before = *self;
+        before.normalize();
         let count = args.len() as u8;
         if before.bottom {
             return Zone::none(count);

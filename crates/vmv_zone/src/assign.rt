@@ -12,58 +12,71 @@ use vmv_cond::Cond;
 
 impl Zone {
     /// The state after the variable `to` was given the value. The state before it is normed.
-    pub fn assign(self, to: u8, value: ZoneValue) -> Zone
+    pub fn assign(mut self, to: u8, value: ZoneValue) -> Zone
         requires few { vars_of self ≤ 16 }
         requires variable { 1 ≤ to }
         requires to { to ≤ vars_of self }
         requires value { IsOperandOf value (vars_of self) }
         ensures { IsAssigned self to value result }
     {
-        let before = self.norm();
-        let fresh = ZoneOperand::Var(before.vars + 1);
-        before
-            .extended()
-            .given(&before, fresh, value)
-            .norm_of_closed()
-            .dropped(to)
+        self.normalize();
+        self.assign_normed(to, value)
     }
 
-    /// This state with the fresh variable equal to the value.
-    fn given(self, before: &Zone, fresh: ZoneOperand, value: ZoneValue) -> Zone
-        requires fresh { IsOperand (vars_of self) fresh }
-        requires vars { vars_of self ≡ vars_of before.now + 1 }
+    /// The state after the variable `to` was given the value, where the state before it is normal.
+    pub fn assign_normed(&self, to: u8, value: ZoneValue) -> Zone
+        requires normal { IsNormal self.now }
+        requires few { vars_of self.now ≤ 16 }
+        requires variable { 1 ≤ to }
+        requires to { to ≤ vars_of self.now }
+        requires value { IsOperandOf value (vars_of self.now) }
+        ensures { IsAssigned self.now to value result }
+    {
+        let fresh = ZoneOperand::Var(self.vars + 1);
+        let mut after = *self;
+        after.extend();
+        after.give(self, fresh, value);
+        after.normalize_closed();
+        after.drop_to(to);
+        after
+    }
+
+    /// Makes the fresh variable equal to the value.
+    fn give(&mut self, before: &Zone, fresh: ZoneOperand, value: ZoneValue)
+        requires fresh { IsOperand (vars_of self.old) fresh }
+        requires vars { vars_of self.old ≡ vars_of before.now + 1 }
         requires normal { IsNormal before.now }
         requires value { IsOperandOf value (vars_of before.now) }
-        requires closed { HasClosedBounds self }
-        ensures { Confines (vars_of self) (λ n. Given value before.now n fresh) self result }
+        requires closed { HasClosedBounds self.old }
+        ensures { Confines (vars_of self.old) (λ n. Given value before.now n fresh) self.old self.new }
     {
         match value {
-            ZoneValue::Copy(operand) => self.copied(before, fresh, operand),
-            ZoneValue::Arith { op, left, right } => self.computed(before, fresh, op, left, right),
-            ZoneValue::Within(cond) => self.within(fresh, cond),
+            ZoneValue::Copy(operand) => self.copy_to(before, fresh, operand),
+            ZoneValue::Arith { op, left, right } => self.compute(before, fresh, op, left, right),
+            ZoneValue::Within(cond) => self.hold_within(fresh, cond),
         }
     }
 
-    /// This state with the fresh variable equal to the operand.
-    fn copied(self, before: &Zone, fresh: ZoneOperand, operand: ZoneOperand) -> Zone
-        requires fresh { IsOperand (vars_of self) fresh }
-        requires vars { vars_of self ≡ vars_of before.now + 1 }
+    /// Makes the fresh variable equal to the operand.
+    fn copy_to(&mut self, before: &Zone, fresh: ZoneOperand, operand: ZoneOperand)
+        requires fresh { IsOperand (vars_of self.old) fresh }
+        requires vars { vars_of self.old ≡ vars_of before.now + 1 }
         requires operand { IsOperand (vars_of before.now) operand }
-        requires closed { HasClosedBounds self }
-        ensures { Confines (vars_of self) (λ n. IsCopy before.now n fresh operand) self result }
+        requires closed { HasClosedBounds self.old }
+        ensures { Confines (vars_of self.old) (λ n. IsCopy before.now n fresh operand) self.old self.new }
     {
         let marked = before.nonzero(operand);
-        self.spanned(fresh, operand, 0, 0)
-            .nonzero_where(fresh, marked)
+        self.span(fresh, operand, 0, 0);
+        self.make_nonzero_where(fresh, marked);
     }
 
-    /// This state with the fresh variable a word of the condition.
-    fn within(self, fresh: ZoneOperand, cond: Cond) -> Zone
-        requires fresh { IsOperand (vars_of self) fresh }
-        requires closed { HasClosedBounds self }
-        ensures { Confines (vars_of self) (λ n. IsWordOf cond n fresh) self result }
+    /// Makes the fresh variable a word of the condition.
+    fn hold_within(&mut self, fresh: ZoneOperand, cond: Cond)
+        requires fresh { IsOperand (vars_of self.old) fresh }
+        requires closed { HasClosedBounds self.old }
+        ensures { Confines (vars_of self.old) (λ n. IsWordOf cond n fresh) self.old self.new }
     {
-        self.spanned(fresh, ZERO, cond.lo() as i128, cond.hi() as i128)
-            .nonzero_where(fresh, cond.zero_out())
+        self.span(fresh, ZERO, cond.lo() as i128, cond.hi() as i128);
+        self.make_nonzero_where(fresh, cond.zero_out());
     }
 }

@@ -9,29 +9,29 @@ use crate::operand::{ZERO, ZoneOp, ZoneOperand};
 use crate::zone::Zone;
 
 impl Zone {
-    /// This state with the fresh variable equal to what the operation gives.
-    pub(crate) fn computed(
-        self,
+    /// Makes the fresh variable equal to what the operation gives.
+    pub(crate) fn compute(
+        &mut self,
         before: &Zone,
         fresh: ZoneOperand,
         op: ZoneOp,
         left: ZoneOperand,
         right: ZoneOperand,
-    ) -> Zone
-        requires fresh { IsOperand (vars_of self) fresh }
-        requires vars { vars_of self ≡ vars_of before.now + 1 }
+    )
+        requires fresh { IsOperand (vars_of self.old) fresh }
+        requires vars { vars_of self.old ≡ vars_of before.now + 1 }
         requires normal { IsNormal before.now }
         requires left { IsOperand (vars_of before.now) left }
         requires right { IsOperand (vars_of before.now) right }
-        requires closed { HasClosedBounds self }
-        ensures { Confines (vars_of self) (λ n. Computed op before.now n fresh left right) self result }
+        requires closed { HasClosedBounds self.old }
+        ensures { Confines (vars_of self.old) (λ n. Computed op before.now n fresh left right) self.old self.new }
     {
         match op {
-            ZoneOp::Add => self.summed(before, fresh, left, right),
-            ZoneOp::Sub => self.subtracted(before, fresh, left, right),
-            ZoneOp::Mul => self.multiplied(before, fresh, left, right),
-            ZoneOp::Div => self.divided(before, fresh, left, right),
-            ZoneOp::Rem => self.reduced(before, fresh, left, right),
+            ZoneOp::Add => self.sum(before, fresh, left, right),
+            ZoneOp::Sub => self.subtract(before, fresh, left, right),
+            ZoneOp::Mul => self.multiply(before, fresh, left, right),
+            ZoneOp::Div => self.divide(before, fresh, left, right),
+            ZoneOp::Rem => self.reduce(before, fresh, left, right),
         }
     }
 
@@ -62,125 +62,100 @@ impl Zone {
         }
     }
 
-    /// This state with the fresh variable equal to the sum.
-    fn summed(
-        self,
-        before: &Zone,
-        fresh: ZoneOperand,
-        left: ZoneOperand,
-        right: ZoneOperand,
-    ) -> Zone
-        requires fresh { IsOperand (vars_of self) fresh }
-        requires vars { vars_of self ≡ vars_of before.now + 1 }
+    /// Makes the fresh variable equal to the sum.
+    fn sum(&mut self, before: &Zone, fresh: ZoneOperand, left: ZoneOperand, right: ZoneOperand)
+        requires fresh { IsOperand (vars_of self.old) fresh }
+        requires vars { vars_of self.old ≡ vars_of before.now + 1 }
         requires normal { IsNormal before.now }
         requires left { IsOperand (vars_of before.now) left }
         requires right { IsOperand (vars_of before.now) right }
-        requires closed { HasClosedBounds self }
-        ensures { Confines (vars_of self) (λ n. IsSum before.now n fresh left right) self result }
+        requires closed { HasClosedBounds self.old }
+        ensures { Confines (vars_of self.old) (λ n. IsSum before.now n fresh left right) self.old self.new }
     {
         let x = before.ends(left);
         let y = before.ends(right);
         let lo = x.lo as i128 + y.lo as i128;
         let hi = x.hi as i128 + y.hi as i128;
-        self.spanned(fresh, ZERO, lo, hi)
-            .spanned(fresh, left, y.lo as i128, y.hi as i128)
-            .spanned(fresh, right, x.lo as i128, x.hi as i128)
+        self.span(fresh, ZERO, lo, hi);
+        self.span(fresh, left, y.lo as i128, y.hi as i128);
+        self.span(fresh, right, x.lo as i128, x.hi as i128);
     }
 
-    /// This state with the fresh variable equal to the difference.
-    fn subtracted(
-        self,
-        before: &Zone,
-        fresh: ZoneOperand,
-        left: ZoneOperand,
-        right: ZoneOperand,
-    ) -> Zone
-        requires fresh { IsOperand (vars_of self) fresh }
-        requires vars { vars_of self ≡ vars_of before.now + 1 }
+    /// Makes the fresh variable equal to the difference.
+    fn subtract(&mut self, before: &Zone, fresh: ZoneOperand, left: ZoneOperand, right: ZoneOperand)
+        requires fresh { IsOperand (vars_of self.old) fresh }
+        requires vars { vars_of self.old ≡ vars_of before.now + 1 }
         requires normal { IsNormal before.now }
         requires left { IsOperand (vars_of before.now) left }
         requires right { IsOperand (vars_of before.now) right }
-        requires closed { HasClosedBounds self }
-        ensures { Confines (vars_of self) (λ n. IsDifference before.now n fresh left right) self result }
+        requires closed { HasClosedBounds self.old }
+        ensures { Confines (vars_of self.old) (λ n. IsDifference before.now n fresh left right) self.old self.new }
     {
         let y = before.ends(right);
         let hi = before.difference(left, right);
         let lo = -before.difference(right, left);
-        self.spanned(fresh, ZERO, lo, hi)
-            .spanned(fresh, left, -(y.hi as i128), -(y.lo as i128))
+        self.span(fresh, ZERO, lo, hi);
+        self.span(fresh, left, -(y.hi as i128), -(y.lo as i128));
     }
 
-    /// This state with the fresh variable equal to the product.
-    fn multiplied(
-        self,
-        before: &Zone,
-        fresh: ZoneOperand,
-        left: ZoneOperand,
-        right: ZoneOperand,
-    ) -> Zone
-        requires fresh { IsOperand (vars_of self) fresh }
+    /// Makes the fresh variable equal to the product.
+    fn multiply(&mut self, before: &Zone, fresh: ZoneOperand, left: ZoneOperand, right: ZoneOperand)
+        requires fresh { IsOperand (vars_of self.old) fresh }
         requires normal { IsNormal before.now }
         requires left { IsOperand (vars_of before.now) left }
         requires right { IsOperand (vars_of before.now) right }
-        requires closed { HasClosedBounds self }
-        ensures { Confines (vars_of self) (λ n. IsProduct before.now n fresh left right) self result }
+        requires closed { HasClosedBounds self.old }
+        ensures { Confines (vars_of self.old) (λ n. IsProduct before.now n fresh left right) self.old self.new }
     {
         let x = before.ends(left);
         let y = before.ends(right);
         let all = products(x, y);
         let x_marked = before.nonzero(left);
         let y_marked = before.nonzero(right);
-        self.spanned(fresh, ZERO, all.lo, all.hi)
-            .nonzero_where(fresh, x_marked & y_marked)
+        self.span(fresh, ZERO, all.lo, all.hi);
+        self.make_nonzero_where(fresh, x_marked & y_marked);
     }
 
-    /// This state with the fresh variable equal to the quotient, and the divisor nonzero.
-    fn divided(
-        self,
-        before: &Zone,
-        fresh: ZoneOperand,
-        left: ZoneOperand,
-        right: ZoneOperand,
-    ) -> Zone
-        requires fresh { IsOperand (vars_of self) fresh }
-        requires vars { vars_of self ≡ vars_of before.now + 1 }
+    /// Makes the fresh variable equal to the quotient, and the divisor nonzero.
+    fn divide(&mut self, before: &Zone, fresh: ZoneOperand, left: ZoneOperand, right: ZoneOperand)
+        requires fresh { IsOperand (vars_of self.old) fresh }
+        requires vars { vars_of self.old ≡ vars_of before.now + 1 }
         requires normal { IsNormal before.now }
         requires left { IsOperand (vars_of before.now) left }
         requires right { IsOperand (vars_of before.now) right }
-        requires closed { HasClosedBounds self }
-        ensures { Confines (vars_of self) (λ n. IsQuotient before.now n fresh left right) self result }
+        requires closed { HasClosedBounds self.old }
+        ensures { Confines (vars_of self.old) (λ n. IsQuotient before.now n fresh left right) self.old self.new }
     {
         let x = before.ends(left);
         let y = before.ends(right);
         match quotients(x, y) {
-            None => Zone::none(self.vars),
-            Some(all) => self
-                .made_nonzero(right)
-                .spanned(fresh, ZERO, all.lo, all.hi),
+            None => {
+                let vars = self.vars;
+                self.empty(vars);
+            }
+            Some(all) => {
+                self.make_nonzero(right);
+                self.span(fresh, ZERO, all.lo, all.hi);
+            }
         }
     }
 
-    /// This state with the fresh variable equal to the remainder, and the divisor nonzero.
-    fn reduced(
-        self,
-        before: &Zone,
-        fresh: ZoneOperand,
-        left: ZoneOperand,
-        right: ZoneOperand,
-    ) -> Zone
-        requires fresh { IsOperand (vars_of self) fresh }
-        requires vars { vars_of self ≡ vars_of before.now + 1 }
+    /// Makes the fresh variable equal to the remainder, and the divisor nonzero.
+    fn reduce(&mut self, before: &Zone, fresh: ZoneOperand, left: ZoneOperand, right: ZoneOperand)
+        requires fresh { IsOperand (vars_of self.old) fresh }
+        requires vars { vars_of self.old ≡ vars_of before.now + 1 }
         requires normal { IsNormal before.now }
         requires left { IsOperand (vars_of before.now) left }
         requires right { IsOperand (vars_of before.now) right }
-        requires closed { HasClosedBounds self }
-        ensures { Confines (vars_of self) (λ n. IsRemainder before.now n fresh left right) self result }
+        requires closed { HasClosedBounds self.old }
+        ensures { Confines (vars_of self.old) (λ n. IsRemainder before.now n fresh left right) self.old self.new }
     {
         let x = before.ends(left);
         let y = before.ends(right);
         let size = y.size();
         let lo = least_remainder(x.lo, size);
         let hi = greatest_remainder(x.hi, size);
-        self.made_nonzero(right).spanned(fresh, ZERO, lo, hi)
+        self.make_nonzero(right);
+        self.span(fresh, ZERO, lo, hi);
     }
 }

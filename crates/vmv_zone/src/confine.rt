@@ -5,7 +5,7 @@ ghost use Rattle.vmv_zone.specs.Bounds.{IsWide};
 ghost use Rattle.vmv_zone.specs.Confine.{Confines, HasClosedBounds};
 
 use crate::operand::ZoneOperand;
-use crate::tables::{closed_bounds, extended_bounds};
+use crate::tables::{close_through, extended_bounds};
 use crate::zone::Zone;
 
 impl Zone {
@@ -30,88 +30,88 @@ impl Zone {
         }
     }
 
-    /// This state with one variable more, which may be any word.
-    pub(crate) fn extended(self) -> Zone
-        requires few { vars_of self ≤ 16 }
-        ensures { Confines (vars_of self + 1) (λ n. Unit {0}) self result }
+    /// Adds one variable, which may be any word.
+    pub(crate) fn extend(&mut self)
+        requires few { vars_of self.old ≤ 16 }
+        ensures { Confines (vars_of self.old + 1) (λ n. Unit {0}) self.old self.new }
     {
         if self.bottom {
-            return Zone::none(self.vars + 1);
+            let vars = self.vars + 1;
+            self.empty(vars);
+            return;
         }
-        let bounds = extended_bounds(&self.bounds, self.vars as usize);
-        let marks = self.marks;
-        Zone {
-            vars: self.vars + 1,
-            bottom: false,
-            bounds,
-            marks,
-        }
+        self.bounds = extended_bounds(&self.bounds, self.vars as usize);
+        self.vars += 1;
     }
 
-    /// This state with the bound on `i - j` at most `bound`.
-    pub(crate) fn lowered(self, i: u8, j: u8, bound: i128) -> Zone
-        requires i { i ≤ vars_of self }
-        requires j { j ≤ vars_of self }
-        requires closed { HasClosedBounds self }
-        ensures { Confines (vars_of self) (λ n. bound_of n i j ≤ℤ bound) self result }
+    /// Lowers the bound on `i - j` to at most `bound`.
+    pub(crate) fn lower(&mut self, i: u8, j: u8, bound: i128)
+        requires i { i ≤ vars_of self.old }
+        requires j { j ≤ vars_of self.old }
+        requires closed { HasClosedBounds self.old }
+        ensures { Confines (vars_of self.old) (λ n. bound_of n i j ≤ℤ bound) self.old self.new }
     {
         if self.bottom {
-            return self;
+            return;
         }
         let kept = bound.max(-1 << 64);
         if kept >= self.bound(i, j) {
-            return self;
+            return;
         }
+        let vars = self.vars;
         if kept + self.bound(j, i) < 0 {
-            return Zone::none(self.vars);
+            self.empty(vars);
+            return;
         }
-        let vars = self.vars as usize;
-        let bounds = closed_bounds(&self.bounds, vars, i as usize, j as usize, kept);
-        let marks = self.marks;
-        Zone {
-            vars: self.vars,
-            bottom: false,
-            bounds,
-            marks,
-        }
+        close_through(
+            &mut self.bounds,
+            vars as usize,
+            i as usize,
+            j as usize,
+            kept,
+        );
     }
 
-    /// This state with the difference of the operands at most `most`.
-    pub(crate) fn at_most(self, left: ZoneOperand, right: ZoneOperand, most: i128) -> Zone
-        requires left { IsOperand (vars_of self) left }
-        requires right { IsOperand (vars_of self) right }
+    /// Lowers the difference of the operands to at most `most`.
+    pub(crate) fn limit(&mut self, left: ZoneOperand, right: ZoneOperand, most: i128)
+        requires left { IsOperand (vars_of self.old) left }
+        requires right { IsOperand (vars_of self.old) right }
         requires most { IsWide most }
-        requires closed { HasClosedBounds self }
-        ensures { Confines (vars_of self) (λ n. dif n left right ≤ℤ most) self result }
+        requires closed { HasClosedBounds self.old }
+        ensures { Confines (vars_of self.old) (λ n. dif n left right ≤ℤ most) self.old self.new }
     {
         let bound = most - left.shift() as i128 + right.shift() as i128;
-        self.lowered(left.thing(), right.thing(), bound)
+        self.lower(left.thing(), right.thing(), bound);
     }
 
-    /// This state with the difference of the operands from `lo` to `hi`.
-    pub(crate) fn spanned(self, left: ZoneOperand, right: ZoneOperand, lo: i128, hi: i128) -> Zone
-        requires left { IsOperand (vars_of self) left }
-        requires right { IsOperand (vars_of self) right }
+    /// Keeps the difference of the operands from `lo` to `hi`.
+    pub(crate) fn span(&mut self, left: ZoneOperand, right: ZoneOperand, lo: i128, hi: i128)
+        requires left { IsOperand (vars_of self.old) left }
+        requires right { IsOperand (vars_of self.old) right }
         requires lo { IsWide lo }
         requires hi { IsWide hi }
-        requires closed { HasClosedBounds self }
-        ensures { Confines (vars_of self) (λ n. IsSpan n left right lo hi) self result }
+        requires closed { HasClosedBounds self.old }
+        ensures { Confines (vars_of self.old) (λ n. IsSpan n left right lo hi) self.old self.new }
     {
-        self.at_most(left, right, hi).at_most(right, left, -lo)
+        self.limit(left, right, hi);
+        self.limit(right, left, -lo);
     }
 
-    /// This state with the operand nonzero: Bottom for the literal 0.
-    pub(crate) fn made_nonzero(self, operand: ZoneOperand) -> Zone
-        requires { IsOperand (vars_of self) operand }
-        ensures { Confines (vars_of self) (λ n. IsNonzero n operand) self result }
+    /// Makes the operand nonzero: Bottom for the literal 0.
+    pub(crate) fn make_nonzero(&mut self, operand: ZoneOperand)
+        requires { IsOperand (vars_of self.old) operand }
+        ensures { Confines (vars_of self.old) (λ n. IsNonzero n operand) self.old self.new }
     {
         if self.bottom {
-            return self;
+            return;
         }
         match operand {
-            ZoneOperand::Lit(0) => Zone::none(self.vars),
-            ZoneOperand::Lit(_) => self,
-            ZoneOperand::Var(y) => self.with_mark(y),
+            ZoneOperand::Lit(0) => {
+                let vars = self.vars;
+                self.empty(vars);
+            }
+            ZoneOperand::Lit(_) => {}
+            ZoneOperand::Var(y) => self.marks[y as usize] = true,
         }
     }
 }

@@ -6,25 +6,20 @@ use crate::tables::dropped_bounds;
 use crate::zone::Zone;
 
 impl Zone {
-    /// This state without the variable `to`, whose name the last variable has.
-    pub(crate) fn dropped(self, to: u8) -> Zone
+    /// Drops the variable `to`, and gives the last variable its name.
+    pub(crate) fn drop_to(&mut self, to: u8)
         requires variable { 1 ≤ to }
-        requires to { to < vars_of self }
-        ensures { Drops to self result }
+        requires to { to < vars_of self.old }
+        ensures { Drops to self.old self.new }
     {
+        let last = self.vars;
         if self.bottom {
-            return Zone::none(self.vars - 1);
+            self.empty(last - 1);
+            return;
         }
-        let last = self.vars as usize;
-        let bounds = dropped_bounds(&self.bounds, to as usize, last);
-        let mut marks = self.marks;
-        marks[to as usize] = self.marks[last];
-        marks[last] = false;
-        Zone {
-            vars: self.vars - 1,
-            bottom: false,
-            bounds,
-            marks,
-        }
+        self.bounds = dropped_bounds(&self.bounds, to as usize, last as usize);
+        self.marks[to as usize] = self.marks[last as usize];
+        self.marks[last as usize] = false;
+        self.vars = last - 1;
     }
 }

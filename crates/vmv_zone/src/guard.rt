@@ -1,5 +1,5 @@
 ghost use Rattle.std.specs.Prelude.{◌≡◌, ◌↔◌, ◌≤ℤ◌, pos, negsuc, IsTrue};
-ghost use Rattle.vmv_zone.specs.Zone.{vars_of};
+ghost use Rattle.vmv_zone.specs.Zone.{vars_of, IsNormal};
 ghost use Rattle.vmv_zone.specs.Operand.{IsOperand, IsZero, IsNonzero, dif};
 ghost use Rattle.vmv_zone.specs.Confine.{Confines, HasClosedBounds};
 ghost use Rattle.vmv_zone.specs.Step.{Tested, IsApart, IsGuarded};
@@ -10,45 +10,58 @@ use crate::zone::Zone;
 
 impl Zone {
     /// The state where the test holds. The state before it is normed.
-    pub fn guard(self, test: ZoneTest) -> Zone
+    pub fn guard(mut self, test: ZoneTest) -> Zone
         requires left { IsOperand (vars_of self) test.left }
         requires right { IsOperand (vars_of self) test.right }
         ensures { IsGuarded self test result }
     {
-        let before = self.norm();
-        before.tested(test).norm_of_closed()
+        self.normalize();
+        self.guard_normed(test)
     }
 
-    /// This state with what the test adds.
-    fn tested(self, test: ZoneTest) -> Zone
-        requires left { IsOperand (vars_of self) test.left }
-        requires right { IsOperand (vars_of self) test.right }
-        requires closed { HasClosedBounds self }
-        ensures { Confines (vars_of self) (λ n. Tested test.rel self n test.left test.right) self result }
+    /// The state where the test holds, where the state before it is normal.
+    pub fn guard_normed(&self, test: ZoneTest) -> Zone
+        requires normal { IsNormal self.now }
+        requires left { IsOperand (vars_of self.now) test.left }
+        requires right { IsOperand (vars_of self.now) test.right }
+        ensures { IsGuarded self.now test result }
+    {
+        let mut after = *self;
+        after.meet(test);
+        after.normalize_closed();
+        after
+    }
+
+    /// Adds what the test adds.
+    fn meet(&mut self, test: ZoneTest)
+        requires left { IsOperand (vars_of self.old) test.left }
+        requires right { IsOperand (vars_of self.old) test.right }
+        requires closed { HasClosedBounds self.old }
+        ensures { Confines (vars_of self.old) (λ n. Tested test.rel self.old n test.left test.right) self.old self.new }
     {
         match test.rel {
-            ZoneRel::Equal => self.spanned(test.left, test.right, 0, 0),
-            ZoneRel::Unequal => self.apart(test.left, test.right),
-            ZoneRel::Less => self.at_most(test.left, test.right, -1),
-            ZoneRel::AtMost => self.at_most(test.left, test.right, 0),
-            ZoneRel::Greater => self.at_most(test.right, test.left, -1),
-            ZoneRel::AtLeast => self.at_most(test.right, test.left, 0),
+            ZoneRel::Equal => self.span(test.left, test.right, 0, 0),
+            ZoneRel::Unequal => self.part(test.left, test.right),
+            ZoneRel::Less => self.limit(test.left, test.right, -1),
+            ZoneRel::AtMost => self.limit(test.left, test.right, 0),
+            ZoneRel::Greater => self.limit(test.right, test.left, -1),
+            ZoneRel::AtLeast => self.limit(test.right, test.left, 0),
         }
     }
 
-    /// This state with two operands that differ.
-    fn apart(self, left: ZoneOperand, right: ZoneOperand) -> Zone
-        requires left { IsOperand (vars_of self) left }
-        requires right { IsOperand (vars_of self) right }
-        requires closed { HasClosedBounds self }
-        ensures { Confines (vars_of self) (λ n. IsApart self n left right) self result }
+    /// Makes two operands differ.
+    fn part(&mut self, left: ZoneOperand, right: ZoneOperand)
+        requires left { IsOperand (vars_of self.old) left }
+        requires right { IsOperand (vars_of self.old) right }
+        requires closed { HasClosedBounds self.old }
+        ensures { Confines (vars_of self.old) (λ n. IsApart self.old n left right) self.old self.new }
     {
         let above = self.touches(left, right);
         let below = self.touches(right, left);
-        self.less_where(left, right, above)
-            .less_where(right, left, below)
-            .nonzero_where(left, right.is_zero())
-            .nonzero_where(right, left.is_zero())
+        self.make_less_where(left, right, above);
+        self.make_less_where(right, left, below);
+        self.make_nonzero_where(left, right.is_zero());
+        self.make_nonzero_where(right, left.is_zero());
     }
 
     /// Whether the difference of the operands is at most 0, and no less.
@@ -60,28 +73,26 @@ impl Zone {
         self.difference(left, right) == 0
     }
 
-    /// This state with the first operand less than the second, where that is wanted.
-    fn less_where(self, left: ZoneOperand, right: ZoneOperand, wanted: bool) -> Zone
-        requires left { IsOperand (vars_of self) left }
-        requires right { IsOperand (vars_of self) right }
-        requires closed { HasClosedBounds self }
-        ensures { Confines (vars_of self) (λ n. IsTrue wanted → dif n left right ≤ℤ negsuc 0) self result }
+    /// Makes the first operand less than the second, where that is wanted.
+    fn make_less_where(&mut self, left: ZoneOperand, right: ZoneOperand, wanted: bool)
+        requires left { IsOperand (vars_of self.old) left }
+        requires right { IsOperand (vars_of self.old) right }
+        requires closed { HasClosedBounds self.old }
+        ensures { Confines (vars_of self.old) (λ n. IsTrue wanted → dif n left right ≤ℤ negsuc 0) self.old self.new }
     {
-        if !wanted {
-            return self;
+        if wanted {
+            self.limit(left, right, -1);
         }
-        self.at_most(left, right, -1)
     }
 
-    /// This state with the operand nonzero, where that is wanted.
-    pub(crate) fn nonzero_where(self, operand: ZoneOperand, wanted: bool) -> Zone
-        requires { IsOperand (vars_of self) operand }
-        ensures { Confines (vars_of self) (λ n. IsTrue wanted → IsNonzero n operand) self result }
+    /// Makes the operand nonzero, where that is wanted.
+    pub(crate) fn make_nonzero_where(&mut self, operand: ZoneOperand, wanted: bool)
+        requires { IsOperand (vars_of self.old) operand }
+        ensures { Confines (vars_of self.old) (λ n. IsTrue wanted → IsNonzero n operand) self.old self.new }
     {
-        if !wanted {
-            return self;
+        if wanted {
+            self.make_nonzero(operand);
         }
-        self.made_nonzero(operand)
     }
 }
 

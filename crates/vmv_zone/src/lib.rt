@@ -31,6 +31,3 @@ pub use laws::{
 pub use operand::{ZoneOp, ZoneOperand, ZoneTest, ZoneValue};
 pub use rel::ZoneRel;
 pub use zone::Zone;
-
-#[cfg(test)]
-mod tests;

@@ -177,6 +177,7 @@ pub(crate) fn settle(bounds: &mut [i128; CELLS], marks: &[bool; 18], vars: usize
     requires vars { vars ≤ 17 }
     requires reach { AreInReach bounds.old }
     requires top { (i : ℕ) → i ≤ vars → bound_at bounds.old i i ≤ℤ pos 0 }
+    ensures full { length bounds.new ≡ 324 }
     ensures settles { Settles (λ n. IsTight n marks.now vars) vars bounds.old bounds.new }
     ensures tight { IsTrue result → IsTight (bound_at bounds.new) marks.now vars }
     ensures empty { IsFalse result → (n : ℕ → ℕ → ℤ) → IsTight n marks.now vars → ¬ Below n vars bounds.old }
@@ -208,6 +209,7 @@ pub(crate) fn settle_closed(bounds: &mut [i128; CELLS], marks: &[bool; 18], vars
     requires vars { vars ≤ 17 }
     requires reach { AreInReach bounds.old }
     requires closed { IsClosed (bound_at bounds.old) vars }
+    ensures full { length bounds.new ≡ 324 }
     ensures settles { Settles (λ n. IsTight n marks.now vars) vars bounds.old bounds.new }
     ensures tight { IsTrue result → IsTight (bound_at bounds.new) marks.now vars }
     ensures empty { IsFalse result → (n : ℕ → ℕ → ℤ) → IsTight n marks.now vars → ¬ Below n vars bounds.old }

@@ -13,7 +13,8 @@ impl Zone {
         requires { IsOperand (vars_of self.now) of }
         ensures { IsRangeOf self.now of result }
     {
-        let before = self.norm();
+        let mut before = *self;
+        before.normalize();
         if before.bottom {
             return Cond::of(1, 0, true);
         }

@@ -1,5 +1,6 @@
-ghost use Rattle.std.specs.Prelude.{◌≡◌, ◌<◌, ◌≤◌, ◌+◌, ◌-◌, ℕ, pos, ◌+ℤ◌, ◌≤ℤ◌};
-ghost use Rattle.vmv_zone.specs.Bounds.{IsInReach, AreInReach, AreUnderTop, IsClosed, IsTable, IsTableBy, bound_at, top_bound, inner_bound, extended_bound, dropped_bound, freed_bound, through_bound, moved};
+ghost use Rattle.std.specs.Prelude.{◌≡◌, ◌≢◌, ◌⊎◌, ◌<◌, ◌≤◌, ◌+◌, ◌-◌, ◌^◌, ℕ, pos, negsuc, ◌+ℤ◌, ◌≤ℤ◌};
+ghost use Rattle.std.specs.Int.{int_min};
+ghost use Rattle.vmv_zone.specs.Bounds.{IsInReach, AreInReach, AreUnderTop, AreZeroOutside, IsClosed, IsWide, IsTable, IsTableBy, bound_at, top_bound, inner_bound, extended_bound, dropped_bound, freed_bound, through_bound, moved};
 
 use crate::paths::CELLS;
 
@@ -82,60 +83,48 @@ fn extended_at(bounds: &[i128; CELLS], last: usize, i: usize, j: usize) -> i128
     bounds[18 * i + j]
 }
 
-/// The closed bounds, closed again with the bound on `i - j` lowered.
+/// Closes the closed bounds again with the bound on `i - j` lowered.
 ///
 /// A path that the lower bound shortens goes once over it, so one look at each pair of things is enough.
-pub(crate) fn closed_bounds(
-    bounds: &[i128; CELLS],
+pub(crate) fn close_through(
+    bounds: &mut [i128; CELLS],
     vars: usize,
     i: usize,
     j: usize,
     bound: i128,
-) -> [i128; CELLS]
+)
     requires few { vars ≤ 17 }
     requires i { i ≤ vars }
     requires j { j ≤ vars }
-    requires reach { AreInReach bounds.now }
+    requires reach { AreInReach bounds.old }
+    requires outside { AreZeroOutside vars bounds.old }
     requires bound { IsInReach bound }
-    requires closed { IsClosed (bound_at bounds.now) vars }
-    requires cycle { pos 0 ≤ℤ (bound +ℤ bound_at bounds.now j i) }
-    ensures { IsTableBy (λ p q b. b ≡ through_bound bounds.now i j bound p q) vars result }
+    requires closed { IsClosed (bound_at bounds.old) vars }
+    requires cycle { pos 0 ≤ℤ (bound +ℤ bound_at bounds.old j i) }
+    ensures { IsTableBy (λ p q b. b ≡ through_bound bounds.old i j bound p q) vars bounds.new }
 {
-    let mut closed = [0; CELLS];
-    for place in 0..18 * (vars + 1) {
-        closed[place] = closed_at(bounds, vars, i, j, bound, place / 18, place % 18);
+    for p in 0..vars + 1 {
+        let through = bounds[18 * p + i] + bound;
+        lower_row(bounds, vars, j, p, through);
     }
-    closed
 }
 
-/// The bound on `p - q`, or that of the path over the bound on `i - j`; 0 where `q` is past the last thing.
-fn closed_at(
-    bounds: &[i128; CELLS],
-    vars: usize,
-    i: usize,
-    j: usize,
-    bound: i128,
-    p: usize,
-    q: usize,
-) -> i128
+/// Lowers the bounds on `p` to those of the paths to `j`, which have the length `through`, and on.
+fn lower_row(bounds: &mut [i128; CELLS], vars: usize, j: usize, p: usize, through: i128)
     requires few { vars ≤ 17 }
-    requires i { i ≤ vars }
     requires j { j ≤ vars }
     requires p { p ≤ vars }
-    requires q { q ≤ 17 }
-    requires reach { AreInReach bounds.now }
-    requires bound { IsInReach bound }
-    requires closed { IsClosed (bound_at bounds.now) vars }
-    requires cycle { pos 0 ≤ℤ (bound +ℤ bound_at bounds.now j i) }
-    ensures inside { q ≤ vars → result ≡ through_bound bounds.now i j bound p q }
-    ensures outside { vars < q → result ≡ pos 0 }
-    ensures reach { IsInReach result }
+    requires reach { AreInReach bounds.old }
+    requires wide { IsWide through }
+    requires room { (q : ℕ) → q ≤ vars → negsuc (2 ^ 64 - 1) ≤ℤ (through +ℤ bound_at bounds.old j q) }
+    ensures row { (q : ℕ) → q ≤ vars → bound_at bounds.new p q ≡ int_min (bound_at bounds.old p q) (through +ℤ bound_at bounds.old j q) }
+    ensures others { (r q : ℕ) → q < 18 → r ≢ p ⊎ vars < q → bound_at bounds.new r q ≡ bound_at bounds.old r q }
+    ensures reach { AreInReach bounds.new }
 {
-    if q > vars {
-        return 0;
+    for q in 0..vars + 1 {
+        let path = through + bounds[18 * j + q];
+        bounds[18 * p + q] = path.min(bounds[18 * p + q]);
     }
-    let through = bounds[18 * p + i] + bound + bounds[18 * j + q];
-    through.min(bounds[18 * p + q])
 }
 
 /// The bounds with those on the last variable in place of those on `to`, and none on the last.

@@ -67,6 +67,17 @@ impl Zone {
         }
     }
 
+    /// Leaves the state with no point over so many variables here.
+    #[cold]
+    #[inline(never)]
+    pub(crate) fn empty(&mut self, vars: u8)
+        requires { vars ≤ 17 }
+        ensures vars { vars_of self.new ≡ vars }
+        ensures bottom { IsBottom self.new }
+    {
+        *self = Zone::none(vars);
+    }
+
     /// How many variables the state has.
     pub fn vars(&self) -> u8
         ensures { result ≡ vars_of self.now }
@@ -99,7 +110,7 @@ impl Zone {
     }
 
     /// The same state but for the bound on `i - j`, which is at least -2^64 and at most top's. It isn't normed.
-    pub fn with_bound(self, i: u8, j: u8, bound: i128) -> Zone
+    pub fn with_bound(mut self, i: u8, j: u8, bound: i128) -> Zone
         requires not_bottom { NotBottom self }
         requires i { i ≤ vars_of self }
         requires j { j ≤ vars_of self }
@@ -107,33 +118,41 @@ impl Zone {
         requires high { bound ≤ℤ top_bound i j }
         ensures { ChangesBound self result i j bound }
     {
-        let mut bounds = self.bounds;
-        bounds[18 * i as usize + j as usize] = bound;
-        let marks = self.marks;
-        Zone {
-            vars: self.vars,
-            bottom: self.bottom,
-            bounds,
-            marks,
-        }
+        self.set_bound(i, j, bound);
+        self
+    }
+
+    /// Sets the bound on `i - j`, which is at least -2^64 and at most top's. The state isn't normed.
+    pub fn set_bound(&mut self, i: u8, j: u8, bound: i128)
+        requires not_bottom { NotBottom self.old }
+        requires i { i ≤ vars_of self.old }
+        requires j { j ≤ vars_of self.old }
+        requires low { negsuc (2 ^ 64 - 1) ≤ℤ bound }
+        requires high { bound ≤ℤ top_bound i j }
+        ensures { ChangesBound self.old self.new i j bound }
+    {
+        self.bounds[18 * i as usize + j as usize] = bound;
     }
 
     /// The same state with a mark on the variable `i`. It isn't normed.
-    pub fn with_mark(self, i: u8) -> Zone
+    pub fn with_mark(mut self, i: u8) -> Zone
         requires not_bottom { NotBottom self }
         requires variable { 1 ≤ i }
         requires i { i ≤ vars_of self }
         ensures { AddsMark self result i }
     {
-        let bounds = self.bounds;
-        let mut marks = self.marks;
-        marks[i as usize] = true;
-        Zone {
-            vars: self.vars,
-            bottom: self.bottom,
-            bounds,
-            marks,
-        }
+        self.set_mark(i);
+        self
+    }
+
+    /// Sets a mark on the variable `i`. The state isn't normed.
+    pub fn set_mark(&mut self, i: u8)
+        requires not_bottom { NotBottom self.old }
+        requires variable { 1 ≤ i }
+        requires i { i ≤ vars_of self.old }
+        ensures { AddsMark self.old self.new i }
+    {
+        self.marks[i as usize] = true;
     }
 
     /// The same state with top's bounds on the variable `i`, and no mark on it. It isn't normed.

@@ -12,4 +12,4 @@ all_rows-requires c = record {
 
 pub returns : goal.returns
 returns c =
-    told_for c.args.base.now c.args.revision.now (cond_of c.args.needed.now) c.args.enough.now _ _ c.in_ok-ends.ensures c.in_ok-told.ensures.rows c.in_ok-told.ensures.witnesses
+    told_for c.args.base.now c.args.revision.now (cond_of c.args.needed.now) c.args.enough.now _ c.in_ok-told.told c.in_ok-ends.ensures c.in_ok-told.ensures.rows c.in_ok-told.ensures.witnesses

@@ -7,4 +7,5 @@ returns c =
     record {
       rows = not_reached (review_of c.args.judging.now) c.args.entry.0 c.args.number c.args.told.now.rows (λ reached. let t = c.reaches.ensures.1 reached in absurd (cc)) c.requires.before.rows;
       witnesses = c.requires.before.witnesses;
+      counted = c.requires.before.counted;
     }

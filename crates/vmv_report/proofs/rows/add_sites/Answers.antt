@@ -16,4 +16,5 @@ returns c =
     record {
       rows = sites_done (review_of c.args.judging.now) c.args.entry.0 c.args.proc.0 c.site_count-done-end.result c.loop-done.done c.loop-done.told.rows c.site_count-done-end.ensures end c.loop-done.invariant.rows;
       witnesses = c.loop-done.invariant.witnesses;
+      counted = c.loop-done.invariant.counted;
     }

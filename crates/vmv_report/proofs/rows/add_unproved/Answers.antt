@@ -1,4 +1,4 @@
-use Rattle.std.proofs.Common.{refl, sym}
+use Rattle.std.proofs.Common.{◌+◌, refl, sym}
 use Rattle.vmv_tree.specs.declared.site.NamedSite.{NamedSite}
 use Rattle.vmv_report.specs.declared.class.Class.TheVariants.{Regression, Alarm}
 use Rattle.vmv_report.specs.declared.row.ReportRow.{ReportRow}
@@ -12,25 +12,25 @@ use Rattle.vmv_report.proofs.rows.add_unproved.Goals as goal
 pub returns-in_ok-push-in-Some : goal.returns-in_ok-push-in-Some
 returns-in_ok-push-in-Some c =
     let row : ReportRow = record { entry = c.args.entry; site = c.args.site; class = Regression } in
-    let new : Told = record { rows = c.push-in-Some.new.self; witnesses = c.push.new.self } in
+    let new : Told = record { rows = c.push-in-Some.new.self; witnesses = c.push.new.self; regressions = c.args.told.now.regressions + 1 } in
     let site : NamedSite = named_site c.args.judging.now.revision.now c.args.site in
     let no = neither (review_of c.args.judging.now) c.args.sites.now row c.requires.sites c.requires.unproved in
     let run = run_is c.args.judging.now.revision.now c.args.judging.now.enough.now c.args.sites.now.found c.args.told.now.rows row c.in_ok-run-in-Some.run'
     (c.requires.sites.found site c.requires.unproved.0 c.requires.unproved.1)
-    (next_is c.args.entry.0 c.as_slice.ensures c.as_slice-2.ensures (sym (named_read c.args.judging.now.revision.now c.args.site c.proc_name-proc.result c.proc_name-proc.ensures))
+    (next_is c.requires.before.counted c.as_slice.ensures (sym (named_read c.args.judging.now.revision.now c.args.site c.proc_name-proc.result c.proc_name-proc.ensures))
     (sym c.in_ok-run-in-Some.ensures) c.in-Some.ensures.some) in
     on_ok c.push-in-Some.result c.push-in-Some.ensures.ok
-    (λ grown. one_more_run (review_of c.args.judging.now) c.args.entry.0 c.args.site.proc.0 c.args.site.index row c.in_ok-run-in-Some.run' c.args.told.now new grown c.in_ok-push-in-Some.ensures.ok refl c.requires.place
+    (λ grown. one_more_run (review_of c.args.judging.now) c.args.entry.0 c.args.site.proc.0 c.args.site.index row c.in_ok-run-in-Some.run' c.args.told.now new grown c.in_ok-push-in-Some.ensures.ok refl refl c.requires.place
     (no.0, no.1, run.0) refl run.1 c.requires.before)
 
 pub returns-in-None : goal.returns-in-None
 returns-in-None c =
     let row : ReportRow = record { entry = c.args.entry; site = c.args.site; class = Alarm } in
-    let new : Told = record { rows = c.push-in-None.new.self; witnesses = c.args.told.now.witnesses } in
+    let new : Told = record { rows = c.push-in-None.new.self; witnesses = c.args.told.now.witnesses; regressions = c.args.told.now.regressions } in
     let site : NamedSite = named_site c.args.judging.now.revision.now c.args.site in
     let no = neither (review_of c.args.judging.now) c.args.sites.now row c.requires.sites c.requires.unproved in
     let stay = stays c.args.judging.now.revision.now c.args.judging.now.enough.now c.args.sites.now.found c.args.told.now.rows row
     (c.requires.sites.found site c.requires.unproved.0 c.requires.unproved.1)
-    (none_is c.args.entry.0 c.as_slice.ensures c.as_slice-2.ensures (sym (named_read c.args.judging.now.revision.now c.args.site c.proc_name-proc.result c.proc_name-proc.ensures)) c.in-None.ensures.none) in
+    (none_is c.requires.before.counted c.as_slice.ensures (sym (named_read c.args.judging.now.revision.now c.args.site c.proc_name-proc.result c.proc_name-proc.ensures)) c.in-None.ensures.none) in
     on_ok c.push-in-None.result c.push-in-None.ensures.ok
-    (λ grown. one_told (review_of c.args.judging.now) c.args.entry.0 c.args.site.proc.0 c.args.site.index row c.args.told.now new grown refl refl c.requires.place (no.0, no.1, stay) refl c.requires.before)
+    (λ grown. one_told (review_of c.args.judging.now) c.args.entry.0 c.args.site.proc.0 c.args.site.index row c.args.told.now new grown refl refl refl c.requires.place (no.0, no.1, stay) refl c.requires.before)

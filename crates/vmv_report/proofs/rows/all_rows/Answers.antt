@@ -1,4 +1,4 @@
-use Rattle.std.proofs.Common.{◌≡◌, length, arith}
+use Rattle.std.proofs.Common.{◌≡◌, length, refl, arith}
 use Rattle.vmv_snapshot.specs.Resolution.{procs_of}
 use Rattle.vmv_report.specs.Work.{review_of}
 use Rattle.vmv_report.proofs.Gathering.{entries_done}
@@ -6,7 +6,7 @@ use Rattle.vmv_report.proofs.Telling.{no_told}
 use Rattle.vmv_report.proofs.rows.all_rows.Goals as goal
 
 pub loop-number-init : goal.loop-number-init
-loop-number-init c = no_told (review_of c.args.judging.now) _ c.new.ensures c.new-2.ensures
+loop-number-init c = no_told (review_of c.args.judging.now) _ c.new.ensures c.new-2.ensures refl
 
 pub returns-clause-rows : goal.returns-clause-rows
 returns-clause-rows c =

@@ -7,7 +7,7 @@ use Rattle.vmv_step.proofs.entry.with_row.Goals as goal
 
 pub loop-j-preserved : goal.loop-j-preserved
 loop-j-preserved c =
-    let change = c.with_bound-row.ensures in
+    let change = c.set_bound.ensures in
     let was = c.loop-j.invariant in
     let vars = was.vars in
     let fits : to_z w128 (of_z w128 c.bound_between.result) ≡ c.bound_between.result = omega (arith, ints) in

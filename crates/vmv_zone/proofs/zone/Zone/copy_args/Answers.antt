@@ -15,7 +15,7 @@ invariant_of-result c = record {
 }
 
 pub returns-then-before : goal.returns-then-before
-returns-then-before c = no_args c.args.self.now c.norm-before.result c.none.result c.args.args.now c.norm-before.ensures (search rules) c.none.ensures.vars c.none.ensures.bottom
+returns-then-before c = no_args c.args.self.now c.normalize.new.self c.none.result c.args.args.now c.normalize.ensures (search rules) c.none.ensures.vars c.none.ensures.bottom
 
 pub returns : goal.returns
-returns c = args_of c.args.self.now c.norm-before.result _ c.args.args.now c.norm-before.ensures (search rules) refl (search rules) c.arg_bounds-bounds.ensures c.arg_marks-marks.ensures.marked
+returns c = args_of c.args.self.now c.normalize.new.self _ c.args.args.now c.normalize.ensures (search rules) refl (search rules) c.arg_bounds-bounds.ensures c.arg_marks-marks.ensures.marked
