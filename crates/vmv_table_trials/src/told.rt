@@ -22,48 +22,66 @@ pub(crate) fn top_of(i: u8, j: u8) -> i128
     }
 }
 
-/// Adds the bounds on what the thing exceeds others by that are below top's, and answers how many these are.
-fn push_bounds(alloc: Global, text: &mut Vec<u8>, zone: &Zone, i: u8) -> Result<u32, AllocError>
+/// A bound on the difference of two things.
+type Bound = (u8, u8, i128);
+
+/// Adds the bounds on what the thing exceeds others by that are below top's.
+fn add_bounds_of(bounds: &mut Vec<Bound>, zone: &Zone, i: u8) -> Result<(), AllocError>
     requires { i ≤ vars_of zone.now }
 {
-    let mut count = 0;
     for j in 0..zone.vars() + 1 {
         let bound = zone.bound(i, j);
         if bound < top_of(i, j) {
-            let told = format!(in alloc; " {i} {j} {bound}")?;
-            text.extend_from_slice(told.as_bytes())?;
-            count += 1;
+            bounds.push((i, j, bound))?;
         }
     }
-    Ok(count)
+    Ok(())
+}
+
+/// The bounds that are below top's.
+fn bounds_of(alloc: Global, zone: &Zone) -> Result<Vec<Bound>, AllocError> {
+    let mut bounds = Vec::new(alloc);
+    for i in 0..zone.vars() + 1 {
+        add_bounds_of(&mut bounds, zone, i)?;
+    }
+    Ok(bounds)
 }
 
 /// Adds how many bounds are below top's, and these.
-fn push_all_bounds(alloc: Global, text: &mut Vec<u8>, zone: &Zone) -> Result<(), AllocError> {
-    let mut bounds = Vec::new(alloc);
-    let mut count = 0;
-    for i in 0..zone.vars() + 1 {
-        count += push_bounds(alloc, &mut bounds, zone, i)?;
-    }
+fn push_bounds(alloc: Global, text: &mut Vec<u8>, zone: &Zone) -> Result<(), AllocError> {
+    let bounds = bounds_of(alloc, zone)?;
+    let count = bounds.len();
     let told = format!(in alloc; " bounds {count}")?;
     text.extend_from_slice(told.as_bytes())?;
-    text.extend_from_slice(bounds.as_slice())
+    for (i, j, bound) in bounds.as_slice() {
+        let told = format!(in alloc; " {i} {j} {bound}")?;
+        text.extend_from_slice(told.as_bytes())?;
+    }
+    Ok(())
+}
+
+/// The variables that are marked.
+fn marks_of(alloc: Global, zone: &Zone) -> Result<Vec<u8>, AllocError> {
+    let mut marks = Vec::new(alloc);
+    for i in 0..zone.vars() + 1 {
+        if zone.marked(i) {
+            marks.push(i)?;
+        }
+    }
+    Ok(marks)
 }
 
 /// Adds how many variables are marked, and these.
 fn push_marks(alloc: Global, text: &mut Vec<u8>, zone: &Zone) -> Result<(), AllocError> {
-    let mut marks = Vec::new(alloc);
-    let mut count = 0;
-    for i in 0..zone.vars() + 1 {
-        if zone.marked(i) {
-            let told = format!(in alloc; " {i}")?;
-            marks.extend_from_slice(told.as_bytes())?;
-            count += 1;
-        }
-    }
+    let marks = marks_of(alloc, zone)?;
+    let count = marks.len();
     let told = format!(in alloc; " nonzero {count}")?;
     text.extend_from_slice(told.as_bytes())?;
-    text.extend_from_slice(marks.as_slice())
+    for i in marks.as_slice() {
+        let told = format!(in alloc; " {i}")?;
+        text.extend_from_slice(told.as_bytes())?;
+    }
+    Ok(())
 }
 
 /// Adds the line of a state: its bounds below top's, and its marks.
@@ -81,7 +99,7 @@ fn push_state(
     } else {
         let told = format!(in alloc; " vars {vars}")?;
         text.extend_from_slice(told.as_bytes())?;
-        push_all_bounds(alloc, text, zone)?;
+        push_bounds(alloc, text, zone)?;
         push_marks(alloc, text, zone)?;
     }
     text.extend_from_slice(b"\n")
