@@ -1,19 +1,31 @@
 -- What is kept of the conditions that are found, and what is made of them.
-use Rattle.std.proofs.Common.{◌≡◌, ℕ, zero, suc, ◌+◌, ◌<◌, ◌≤◌, Bool, true, false, ◌&&◌, List, [], ◌∷◌, ◌++◌, length, get_or, take, drop, refl, sym, ap, subst, ◌∙◌, arith, add-one}
-use Rattle.std.specs.List.{AllZip}
+use Rattle.std.proofs.Common.{◌≡◌, ℕ, zero, suc, ◌+◌, ◌<◌, ◌≤◌, Bool, true, false, ◌&&◌, Some, List, [], ◌∷◌, ◌++◌, length, get_or, slice_get, take, drop, refl, sym, ap, subst, ◌∙◌, arith, add-one, drop-cons}
+use Rattle.std.specs.List.{filter_map, AllZip}
 use Rattle.std.specs.Ordering.{int_eq}
 use Rattle.std.specs.Str.{bytes_eq}
-use Rattle.std.proofs.lemmas.List.{drop_all}
+use Rattle.std.proofs.lemmas.List.{take_all}
+use Rattle.std.proofs.lemmas.List.Elements.{filter_map-append}
 use Rattle.std.proofs.lemmas.Bool.Decides.{Decides-int_eq}
 use Rattle.std.proofs.lemmas.Slice.Eq.{bytes_eq-Decides}
+use Rattle.vmv_snapshot.specs.declared.code.ProcId.{ProcId}
+use Rattle.vmv_snapshot.specs.declared.code.SiteId.{SiteId}
+use Rattle.vmv_snapshot.specs.declared.code.CodeStmt.{CodeStmt}
+use Rattle.vmv_snapshot.specs.declared.code.Code.{Code}
+use Rattle.vmv_snapshot.specs.View.{stmt_of, block_of}
 use Rattle.vmv_back.specs.Firsts.{firsts}
 use Rattle.vmv_back.specs.Kept.{keep_all}
 use Rattle.vmv_demands.specs.declared.want.Condition.{Condition}
 use Rattle.vmv_demands.specs.declared.want.Condition.TheVariants.{Range, Nonzero}
+use Rattle.vmv_demands.specs.declared.lead.Lead.{Lead}
+use Rattle.vmv_demands.specs.declared.lead.Lead.TheVariants.{Nowhere, Asked, At}
+use Rattle.vmv_demands.specs.declared.lead.SiteLead.{SiteLead}
 use Rattle.vmv_demands.specs.declared.lead.Found.{Found}
 use Rattle.vmv_demands.specs.declared.demand.Demand.{Demand}
+use Rattle.vmv_demands.specs.Back.{Results, over_all, results}
+use Rattle.vmv_demands.specs.Leads.{lead_of, led_on, Inside, leads_in, leads_in_all, insides, asked, wanted_by}
 use Rattle.vmv_demands.specs.Demands.{same_condition, same_found, IsDemand}
-use Rattle.vmv_demands.proofs.Keeping.{kept_are_firsts}
+use Rattle.vmv_demands.proofs.Keeping.{keep_all-append, full_stays, kept_are_firsts}
+use Rattle.vmv_demands.proofs.Leading.{no_leads, more_leads, proc_leads_are}
 
 both_true : (a b : Bool) → (a && b) ≡ true → (a ≡ true) × (b ≡ true)
 both_true true b h = (refl, h)
@@ -33,9 +45,53 @@ same_found-agrees x y z h =
     let cond : x.cond ≡ y.cond = same_condition-same x.cond y.cond parts.1 in
     sym (λ i. bytes_eq (name i) z.name && same_condition (cond i) z.cond)
 
-pub all_kept : (all kept : List Found) (i : ℕ) → length all ≤ i → keep_all 32 same_found kept (drop i all) ≡ keep_all 32 same_found [] all → kept ≡ take 32 (firsts same_found all)
-all_kept all kept i h inv =
-    sym (ap (keep_all 32 same_found kept) (drop_all i all h)) ∙ inv ∙ kept_are_firsts same_found same_found-agrees 32 all
+pub full : (kept xs : List Found) → 32 ≤ length kept → kept ≡ keep_all 32 same_found kept xs
+full kept xs h = sym (full_stays same_found same_found-agrees 32 kept xs h)
+
+asked_lead : (site : SiteId) (lead : Lead) → filter_map asked (lead_of site lead) ≡ filter_map asked (record { site = site; lead = lead } ∷ [])
+asked_lead site Nowhere = refl
+asked_lead site (Asked f cond) = refl
+asked_lead site (At x want) = refl
+
+-- from one site behind statements to the next
+pub keep_next : (move : Lead → Lead) (behind : List SiteLead) (i : ℕ) (led : SiteLead) (kept more all : List Found) → i < length behind → led ≡ get_or behind i led →
+    keep_all 32 same_found kept (filter_map asked (led_on move (drop i behind))) ≡ all →
+    more ≡ keep_all 32 same_found kept (filter_map asked (record { site = led.site; lead = move led.lead } ∷ [])) →
+    keep_all 32 same_found more (filter_map asked (led_on move (drop (i + 1) behind))) ≡ all
+keep_next move behind i led kept more all h is inv e =
+    let tail : drop i behind ≡ led ∷ drop (i + 1) behind = rw (add-one, drop-cons behind i led, ← is) refl in
+    let here : List SiteLead = lead_of led.site (move led.lead) in
+    let rest : List SiteLead = led_on move (drop (i + 1) behind) in
+    ap (λ (k : List Found). keep_all 32 same_found k (filter_map asked rest)) (e ∙ ap (keep_all 32 same_found kept) (sym (asked_lead led.site (move led.lead))))
+    ∙ sym (keep_all-append 32 same_found kept (filter_map asked here) (filter_map asked rest))
+    ∙ ap (keep_all 32 same_found kept) (sym (filter_map-append asked here rest))
+    ∙ ap (λ (l : List SiteLead). keep_all 32 same_found kept (filter_map asked (led_on move l))) (sym tail)
+    ∙ inv
+
+-- from one statement of a procedure to the next
+pub next_wanted : (r : Results) (inside : Inside) (p : ProcId) (block before : List CodeStmt) (i : ℕ) (s : CodeStmt) (kept more : List Found) → i < length block → s ≡ get_or block i s → before ≡ take i block →
+    kept ≡ keep_all 32 same_found [] (filter_map asked (leads_in_all r inside p (block_of (take i block)))) →
+    more ≡ keep_all 32 same_found kept (filter_map asked (led_on (over_all r (block_of before)) (leads_in r inside p (stmt_of s)))) →
+    more ≡ keep_all 32 same_found [] (filter_map asked (leads_in_all r inside p (block_of (take (i + 1) block))))
+next_wanted r inside p block before i s kept more h is front inv e =
+    let found : List SiteLead = leads_in_all r inside p (block_of (take i block)) in
+    let here : List SiteLead = led_on (over_all r (block_of (take i block))) (leads_in r inside p (stmt_of s)) in
+    e ∙ (λ j. keep_all 32 same_found (inv j) (filter_map asked (led_on (over_all r (block_of (front j))) (leads_in r inside p (stmt_of s)))))
+    ∙ sym (keep_all-append 32 same_found [] (filter_map asked found) (filter_map asked here))
+    ∙ ap (keep_all 32 same_found []) (sym (filter_map-append asked found here))
+    ∙ ap (λ (l : List SiteLead). keep_all 32 same_found [] (filter_map asked l)) (sym (more_leads r inside p block i s h is))
+
+-- at its start
+pub no_wanted : (r : Results) (inside : Inside) (p : ProcId) (block : List CodeStmt) (kept : List Found) → kept ≡ [] → kept ≡ keep_all 32 same_found [] (filter_map asked (leads_in_all r inside p (block_of (take 0 block))))
+no_wanted r inside p block kept e = e ∙ ap (λ (l : List SiteLead). keep_all 32 same_found [] (filter_map asked l)) (no_leads r inside p block [] refl)
+
+-- at its end
+pub all_wanted : (codes : List Code) (p : ProcId) (code : Code) (block : List CodeStmt) (i : ℕ) (kept : List Found) → slice_get codes p.0 ≡ Some code → block ≡ code.block → length block ≤ i →
+    kept ≡ keep_all 32 same_found [] (filter_map asked (leads_in_all (results codes p.0) (insides codes p.0) p (block_of (take i block)))) → kept ≡ take 32 (firsts same_found (wanted_by codes p.0))
+all_wanted codes p code block i kept at same h inv =
+    inv ∙ kept_are_firsts same_found same_found-agrees 32 (filter_map asked (leads_in_all (results codes p.0) (insides codes p.0) p (block_of (take i block))))
+    ∙ ap (λ (l : List SiteLead). take 32 (firsts same_found (filter_map asked l)))
+    (ap (λ (b : List CodeStmt). leads_in_all (results codes p.0) (insides codes p.0) p (block_of b)) (take_all i block h) ∙ proc_leads_are codes p code block _ at same refl)
 
 -- the first items and one more
 take_none : (xs : List Found) → take 0 xs ≡ []

@@ -41,9 +41,23 @@ many_all most all e = more (length (take most all)) (length all) most (length-ta
     more : (k n m : ℕ) → k ≡ min m n → nat_lt k m ≡ false → m ≤ n
     more k n m l e = grind (arith, nat_tests)
 
+not_less : (a b : ℕ) → b ≤ a → nat_lt a b ≡ false
+not_less a b h = grind (arith, nat_tests)
+
+pub keep_all-append : {A : Type 0} (most : ℕ) (same : A → A → Bool) (kept xs ys : List A) → keep_all most same kept (xs ++ ys) ≡ keep_all most same (keep_all most same kept xs) ys
+keep_all-append most same kept [] ys = refl
+keep_all-append most same kept (x ∷ xs) ys = keep_all-append most same (keep most same kept x) xs ys
+
 module _ {A : Type 0} (same : A → A → Bool) (agrees : (x y z : A) → same x y ≡ true → same y z ≡ same x z) where
   stays : (most : ℕ) (kept : List A) (x : A) → (nat_lt (length kept) most && not (list_any (λ y. same y x) kept)) ≡ false → keep most same kept x ≡ kept
   stays most kept x e = pick_false (nat_lt (length kept) most && not (list_any (λ y. same y x) kept)) (kept ++ x ∷ []) kept e
+
+  -- nothing more is kept where so many are
+  pub full_stays : (most : ℕ) (kept xs : List A) → most ≤ length kept → keep_all most same kept xs ≡ kept
+  full_stays most kept [] h = refl
+  full_stays most kept (x ∷ xs) h =
+      ap (λ (ys : List A). keep_all most same ys xs) (stays most kept x (ap (λ (b : Bool). b && not (list_any (λ y. same y x) kept)) (not_less (length kept) most h)))
+      ∙ full_stays most kept xs h
 
   -- x, unless one of these is the same
   abbrev unless_there : List A → A → List A

@@ -1,6 +1,7 @@
 -- The conditions of sites, led back step by step.
-use Rattle.std.proofs.Common.{◌≡◌, ◌≢◌, ℕ, zero, suc, ◌+◌, ◌<◌, ◌≤◌, ◌==◌, Bool, true, false, Some, List, [], ◌∷◌, ◌++◌, length, get_or, take, slice_get, refl, sym, ap, ◌∙◌, arith, add-one, append_assoc, append-nil, if◌then◌else◌}
+use Rattle.std.proofs.Common.{◌≡◌, ◌≢◌, ℕ, zero, suc, ◌+◌, ◌<◌, ◌≤◌, ◌==◌, Bool, true, false, Some, List, [], ◌∷◌, ◌++◌, length, get_or, take, slice_get, refl, sym, ap, ◌∙◌, arith, add-one, append_assoc, append-nil, length-append, if◌then◌else◌}
 use Rattle.std.proofs.lemmas.Bool.Decides.{nat_tests}
+use Rattle.std.proofs.lemmas.Option.{get_or_from_slice_get}
 use Rattle.vmv_snapshot.specs.declared.code.Slot.{Slot}
 use Rattle.vmv_snapshot.specs.declared.code.ProcId.{ProcId}
 use Rattle.vmv_snapshot.specs.declared.code.SiteId.{SiteId}
@@ -18,7 +19,7 @@ use Rattle.vmv_demands.specs.declared.lead.Lead.TheVariants.{Nowhere, Asked, At}
 use Rattle.vmv_demands.specs.declared.lead.SiteLead.{SiteLead}
 use Rattle.vmv_demands.specs.Needs.{test_needs, arith_needs, bound_needs}
 use Rattle.vmv_demands.specs.Back.{out_of_call, out_of_loop, Results, over, over_all, results}
-use Rattle.vmv_demands.specs.Leads.{lead_of, led_on, simple_leads, Inside, leads_in, leads_in_all, leads_in_code, insides, proc_leads}
+use Rattle.vmv_demands.specs.Leads.{lead_of, led_on, simple_leads, Inside, leads_in, leads_in_all, leads_in_code, insides, proc_leads, AreInsides}
 use Rattle.vmv_demands.proofs.Sizes.{is_plain, is_help, is_if, is_repeat, loop_of}
 
 pick_true : {A : Type 0} (b : Bool) (x y : A) → b ≡ true → (if b then x else y) ≡ x
@@ -152,12 +153,15 @@ module _ (r : Results) (inside : Inside) (p : ProcId) where
       ∙ sym (append_assoc (leads_in r inside p (stmt_of b)) (led_on (over r (stmt_of b)) (leads_in_all r inside p front)) (led_on (over_all r (stmt_of b ⨾ front)) (leads_in r inside p (stmt_of s))))
       ∙ ap (λ (l : List SiteLead). l ++ led_on (over_all r (stmt_of b ⨾ front)) (leads_in r inside p (stmt_of s))) (sym (all-row (stmt_of b) front))
 
+  pub more_leads : (block : List CodeStmt) (i : ℕ) (s : CodeStmt) → i < length block → s ≡ get_or block i s →
+      leads_in_all r inside p (block_of (take (i + 1) block)) ≡ leads_in_all r inside p (block_of (take i block)) ++ led_on (over_all r (block_of (take i block))) (leads_in r inside p (stmt_of s))
+  more_leads block i s h is = ap (λ (n : ℕ). leads_in_all r inside p (block_of (take n block))) (add-one i) ∙ last block i s h is
+
   pub next_leads : (block before : List CodeStmt) (i : ℕ) (s : CodeStmt) (leads behind more : List SiteLead) → i < length block → s ≡ get_or block i s → before ≡ take i block →
       leads ≡ leads_in_all r inside p (block_of (take i block)) → behind ≡ leads_in r inside p (stmt_of s) → more ≡ leads ++ led_on (over_all r (block_of before)) behind →
       more ≡ leads_in_all r inside p (block_of (take (i + 1) block))
   next_leads block before i s leads behind more h is front inv e f =
-      f ∙ (λ j. inv j ++ led_on (over_all r (block_of (front j))) (e j)) ∙ sym (last block i s h is)
-      ∙ ap (λ (n : ℕ). leads_in_all r inside p (block_of (take n block))) (sym (add-one i))
+      f ∙ (λ j. inv j ++ led_on (over_all r (block_of (front j))) (e j)) ∙ sym (more_leads block i s h is)
 
   pub no_leads : (block : List CodeStmt) (leads : List SiteLead) → leads ≡ [] → leads ≡ leads_in_all r inside p (block_of (take 0 block))
   no_leads block leads e = e ∙ sym (ap (λ (b : List CodeStmt). leads_in_all r inside p (block_of b)) (take_none block) ∙ all-none)
@@ -215,3 +219,43 @@ pub proc_leads_are : (codes : List Code) (p : ProcId) (code : Code) (block : Lis
 proc_leads_are codes p code block leads at same e =
     e ∙ ap (λ (b : List CodeStmt). leads_in_all (results codes p.0) (insides codes p.0) p (block_of b)) same
     ∙ ap (leads_in_code (results codes p.0) (insides codes p.0) p.0) (sym at)
+
+-- the row of a procedure before the n-th
+pub row_is : (codes : List Code) (n k : ℕ) (rows : List (List SiteLead)) (row : List SiteLead) → AreInsides codes n rows → k < n → row ≡ get_or rows k row → row ≡ proc_leads codes k
+row_is codes n k rows row are below is = is ∙ get_or_from_slice_get rows k (proc_leads codes k) row (are.right k below)
+
+at_front : (rows : List (List SiteLead)) (row : List SiteLead) (k : ℕ) → k < length rows → slice_get (rows ++ row ∷ []) k ≡ slice_get rows k
+at_front [] row k h = absurd (omega arith)
+at_front (r ∷ rows) row zero h = refl
+at_front (r ∷ rows) row (suc k) h = at_front rows row k (omega (arith, h))
+
+at_end : (rows : List (List SiteLead)) (row : List SiteLead) → slice_get (rows ++ row ∷ []) (length rows) ≡ Some row
+at_end [] row = refl
+at_end (r ∷ rows) row = at_end rows row
+
+-- with the row of the n-th
+pub one_row_more : (codes : List Code) (n : ℕ) (rows more : List (List SiteLead)) (row : List SiteLead) → length rows ≡ n → AreInsides codes n rows → row ≡ proc_leads codes n → more ≡ rows ++ row ∷ [] →
+    (length more ≡ n + 1) × AreInsides codes (n + 1) more
+one_row_more codes n rows more row long are is e =
+    let longer : length more ≡ n + 1 = ap length e ∙ length-append rows (row ∷ []) ∙ ap (λ (m : ℕ). m + 1) long in
+    (longer, record { count = omega arith; right = at })
+  where
+    by : (k : ℕ) (b : Bool) → k < n + 1 → (k == n) ≡ b → slice_get more k ≡ Some (proc_leads codes k)
+    by k true h f =
+        let same : k ≡ length rows = number k n f ∙ sym long in
+        ap (λ (xs : List (List SiteLead)). slice_get xs k) e ∙ ap (slice_get (rows ++ row ∷ [])) same ∙ at_end rows row ∙ (λ i. Some ((is ∙ ap (proc_leads codes) (sym (number k n f))) i))
+      where
+        number : (a b : ℕ) → (a == b) ≡ true → a ≡ b
+        number a b f = grind (arith, nat_tests)
+    by k false h f =
+        let below : k < n = less k n h f in
+        ap (λ (xs : List (List SiteLead)). slice_get xs k) e ∙ at_front rows row k (omega (arith, below, long)) ∙ are.right k below
+      where
+        less : (a b : ℕ) → a < b + 1 → (a == b) ≡ false → a < b
+        less a b h f = grind (arith, nat_tests)
+
+    at : (k : ℕ) → k < n + 1 → slice_get more k ≡ Some (proc_leads codes k)
+    at k h = by k (k == n) h refl
+
+pub no_rows : (codes : List Code) (rows : List (List SiteLead)) → rows ≡ [] → (length rows ≡ 0) × AreInsides codes 0 rows
+no_rows codes rows e = (ap length e, record { count = omega arith; right = λ k h. absurd (omega arith) })

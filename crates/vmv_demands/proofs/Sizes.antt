@@ -1,4 +1,4 @@
--- How large resolved statements are: a bound on the recursion over them and over the helpers that they call.
+-- How large resolved statements are: a bound on the recursion over them.
 use Rattle.std.proofs.Common.{◌≡◌, ℕ, zero, suc, ◌+◌, ◌*◌, ◌<◌, ◌≤◌, Some, List, [], ◌∷◌, length, drop, get_or, slice_get, refl, ap, arith, ◌∙◌, add-one, drop-cons}
 use Rattle.vmv_snapshot.specs.declared.code.Slot.{Slot}
 use Rattle.vmv_snapshot.specs.declared.code.ProcId.{ProcId}
@@ -23,12 +23,6 @@ abbrev mutual
   block_size [] = 0
   block_size (s ⨾ rest) = size s + block_size rest
 
--- a bound on a walk over the first n procedures
-abbrev pub budget : List Code → ℕ → ℕ
-budget [] n = 0
-budget (code ∷ codes) zero = 0
-budget (code ∷ codes) (suc n) = 3 * block_size (block_of code.block) + 2 + budget codes n
-
 -- a block from its i-th statement on
 pub from_item : (block : List CodeStmt) (i : ℕ) (s : CodeStmt) → i < length block → s ≡ get_or block i s → block_of (drop i block) ≡ stmt_of s ⨾ block_of (drop (i + 1) block)
 from_item block i s h is = let tail : drop i block ≡ s ∷ drop (i + 1) block = rw (add-one, drop-cons block i s, ← is) refl in ap block_of tail
@@ -49,60 +43,23 @@ loop_of r = loop r.index r.slot r.bound r.cap r.site (block_of r.body)
 pub is_repeat : (s : CodeStmt) (r : CodeRepeat) → s ≡ Repeat r → stmt_of s ≡ loop_of r
 is_repeat s r is = ap stmt_of is ∙ stmt_of-repeat r.index r.slot r.bound r.cap r.site r.body
 
-budget-zero : (codes : List Code) → budget codes 0 ≡ 0
-budget-zero [] = refl
-budget-zero (c ∷ codes) = refl
-
-budget-more : (codes : List Code) (m n : ℕ) → m ≤ n → budget codes m ≤ budget codes n
-budget-more [] m n h = omega arith
-budget-more (c ∷ codes) zero n h = omega arith
-budget-more (c ∷ codes) (suc m) zero h = absurd (omega arith)
-budget-more (c ∷ codes) (suc m) (suc n) h = let k = budget-more codes m n (omega arith) in omega arith
-
-budget-next : (codes : List Code) (p : ℕ) (code : Code) → slice_get codes p ≡ Some code → budget codes (suc p) ≡ budget codes p + 3 * block_size (block_of code.block) + 2
-budget-next [] p code e = absurd (cc)
-budget-next (c ∷ codes) zero code e =
-    let same : c ≡ code = cc in
-    let z = budget-zero codes in
-    let k : block_size (block_of c.block) ≡ block_size (block_of code.block) = ap (λ (x : Code). block_size (block_of x.block)) same in
-    omega arith
-budget-next (c ∷ codes) (suc p) code e = let k = budget-next codes p code e in omega arith
-
 -- the bound falls with each call
-pub falls_help : (codes : List Code) (t p : ℕ) (s : CodeStmt) (to : Slot) (callee : ProcId) (args : List CodeOperand) → s ≡ Help to callee args → callee.0 < p →
-    budget codes p + 3 * size (stmt_of s) ≡ t → budget codes (callee.0 + 1) < t
-falls_help codes t p s to callee args is below d =
-    let e : size (stmt_of s) ≡ 1 = ap size (is_help s to callee args is) in
-    let k = budget-more codes (callee.0 + 1) p (omega arith) in
-    omega arith
-
-pub falls_first : (codes : List Code) (t p : ℕ) (s : CodeStmt) (test : CodeTest) (first second one : List CodeStmt) → s ≡ If test first second → one ≡ first →
-    budget codes p + 3 * size (stmt_of s) ≡ t → budget codes p + 3 * block_size (block_of one) + 1 < t
-falls_first codes t p s test first second one is a d =
+pub falls_first : (t : ℕ) (s : CodeStmt) (test : CodeTest) (first second one : List CodeStmt) → s ≡ If test first second → one ≡ first → 2 * size (stmt_of s) ≡ t → 2 * block_size (block_of one) + 1 < t
+falls_first t s test first second one is a d =
     let e : size (stmt_of s) ≡ 1 + block_size (block_of first) + block_size (block_of second) = ap size (is_if s test first second is) in
     let f : block_size (block_of one) ≡ block_size (block_of first) = ap (λ (b : List CodeStmt). block_size (block_of b)) a in
     omega arith
 
-pub falls_second : (codes : List Code) (t p : ℕ) (s : CodeStmt) (test : CodeTest) (first second one : List CodeStmt) → s ≡ If test first second → one ≡ second →
-    budget codes p + 3 * size (stmt_of s) ≡ t → budget codes p + 3 * block_size (block_of one) + 1 < t
-falls_second codes t p s test first second one is a d =
+pub falls_second : (t : ℕ) (s : CodeStmt) (test : CodeTest) (first second one : List CodeStmt) → s ≡ If test first second → one ≡ second → 2 * size (stmt_of s) ≡ t → 2 * block_size (block_of one) + 1 < t
+falls_second t s test first second one is a d =
     let e : size (stmt_of s) ≡ 1 + block_size (block_of first) + block_size (block_of second) = ap size (is_if s test first second is) in
     let f : block_size (block_of one) ≡ block_size (block_of second) = ap (λ (b : List CodeStmt). block_size (block_of b)) a in
     omega arith
 
-pub falls_repeat : (codes : List Code) (t p : ℕ) (s : CodeStmt) (r : CodeRepeat) (one : List CodeStmt) → s ≡ Repeat r → one ≡ r.body →
-    budget codes p + 3 * size (stmt_of s) ≡ t → budget codes p + 3 * block_size (block_of one) + 1 < t
-falls_repeat codes t p s r one is a d =
+pub falls_repeat : (t : ℕ) (s : CodeStmt) (r : CodeRepeat) (one : List CodeStmt) → s ≡ Repeat r → one ≡ r.body → 2 * size (stmt_of s) ≡ t → 2 * block_size (block_of one) + 1 < t
+falls_repeat t s r one is a d =
     let e : size (stmt_of s) ≡ 1 + block_size (block_of r.body) = ap size (is_repeat s r is) in
     let f : block_size (block_of one) ≡ block_size (block_of r.body) = ap (λ (b : List CodeStmt). block_size (block_of b)) a in
-    omega arith
-
-pub falls_proc : (codes : List Code) (t p : ℕ) (code : Code) (one : List CodeStmt) → slice_get codes p ≡ Some code → one ≡ code.block → budget codes (p + 1) ≡ t →
-    budget codes p + 3 * block_size (block_of one) + 1 < t
-falls_proc codes t p code one at a d =
-    let f : block_size (block_of one) ≡ block_size (block_of code.block) = ap (λ (b : List CodeStmt). block_size (block_of b)) a in
-    let g : budget codes (p + 1) ≡ budget codes (suc p) = ap (budget codes) (omega arith) in
-    let h = budget-next codes p code at in
     omega arith
 
 -- a statement of a block isn't larger than the block
@@ -111,6 +68,5 @@ item_size [] i s h is = absurd (omega arith)
 item_size (b ∷ block) zero s h is = let e : size (stmt_of s) ≡ size (stmt_of b) = ap (λ (x : CodeStmt). size (stmt_of x)) is in omega arith
 item_size (b ∷ block) (suc i) s h is = let k = item_size block i s (omega (arith, h)) is in omega arith
 
-pub falls_item : (codes : List Code) (t p : ℕ) (block : List CodeStmt) (i : ℕ) (s : CodeStmt) → i < length block → s ≡ get_or block i s →
-    budget codes p + 3 * block_size (block_of block) + 1 ≡ t → budget codes p + 3 * size (stmt_of s) < t
-falls_item codes t p block i s h is d = let k = item_size block i s h is in omega arith
+pub falls_item : (t : ℕ) (block : List CodeStmt) (i : ℕ) (s : CodeStmt) → i < length block → s ≡ get_or block i s → 2 * block_size (block_of block) + 1 ≡ t → 2 * size (stmt_of s) < t
+falls_item t block i s h is d = let k = item_size block i s h is in omega arith

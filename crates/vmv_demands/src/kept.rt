@@ -1,19 +1,22 @@
-ghost use Rattle.std.specs.Prelude.{◌≡◌, ◌<◌, true, Some, length, map, take, slice_get, IfOk, OnOk};
-ghost use Rattle.std.specs.List.{list_any, AllZip};
+ghost use Rattle.std.specs.Prelude.{◌≡◌, ◌<◌, [], ◌∷◌, true, Some, length, map, slice_get, IfOk, OnOk};
+ghost use Rattle.std.specs.List.{list_any, filter_map, AllZip};
+ghost use Rattle.vmv_snapshot.specs.View.{stmt_of, block_of};
 ghost use Rattle.vmv_snapshot.specs.Procs.{is_entry};
 ghost use Rattle.vmv_snapshot.specs.Resolution.{procs_of};
-ghost use Rattle.vmv_back.specs.Firsts.{firsts};
-ghost use Rattle.vmv_back.specs.Kept.{keep};
+ghost use Rattle.vmv_back.specs.Kept.{keep, keep_all};
+ghost use Rattle.vmv_demands.specs.Back.{over_all, results};
+ghost use Rattle.vmv_demands.specs.Leads.{led_on, leads_in, insides, asked, AreInsides};
 ghost use Rattle.vmv_demands.specs.Demands.{same_condition, same_found, first_wanted, IsCondOf, IsDemand, AreDemands};
 
+use crate::back::over_all;
 use crate::demand::{Demand, Demands};
-use crate::lead::Found;
-use crate::leads::wanted_by;
+use crate::lead::{Found, SiteLead};
+use crate::leads::{Leads, asked, insides, leads_in};
 use crate::want::Condition;
 use sqlite_items::Items;
 use std::alloc::{AllocError, Global};
 use vmv_cond::Cond;
-use vmv_snapshot::{ProcId, Snapshot};
+use vmv_snapshot::{CodeStmt, ProcId, Snapshot};
 
 fn same_condition(a: Condition, b: Condition) -> bool
     ensures { result ≡ same_condition a b }
@@ -53,28 +56,82 @@ fn keep(kept: &mut Items<Found>, found: Found) -> Result<(), AllocError>
     Ok(())
 }
 
-/// The first 32 different ones.
-fn first_of(alloc: Global, all: &[Found]) -> Result<Items<Found>, AllocError>
-    ensures { IfOk result (λ kept. kept ≡ take 32 (firsts same_found all.now)) }
+/// Keeps what has come to the answer of an outside function.
+fn keep_asked(kept: &mut Items<Found>, led: &SiteLead) -> Result<(), AllocError>
+    ensures { OnOk result (kept.new ≡ keep_all 32 same_found kept.old (filter_map asked (led.now ∷ []))) }
 {
-    let mut kept = Items::new(alloc);
-    for found in all {
-        keep(&mut kept, *found)?;
+    match asked(led) {
+        Some(found) => keep(kept, found),
+        None => Ok(()),
     }
-    Ok(kept)
 }
 
-/// What the sites of a procedure and of its calls want of answers: the first 32 different ones.
+/// Keeps what stands behind statements of a procedure and comes to answers before them.
+fn keep_over_all(
+    kept: &mut Items<Found>,
+    snapshot: &Snapshot,
+    proc: ProcId,
+    before: &[CodeStmt],
+    behind: &[SiteLead],
+) -> Result<(), AllocError>
+    requires { proc.0 < length (procs_of snapshot.now) }
+    ensures { OnOk result (kept.new ≡ keep_all 32 same_found kept.old (filter_map asked (led_on (over_all (results snapshot.now.codes proc.0) (block_of before.now)) behind.now))) }
+{
+    for led in behind {
+        let lead = over_all(snapshot, proc, before, led.lead);
+        let site = led.site;
+        keep_asked(kept, &SiteLead { site, lead })?;
+    }
+    Ok(())
+}
+
+/// Keeps what a statement wants of answers, before which these stand; nothing more where 32 are kept.
+fn keep_wanted(
+    kept: &mut Items<Found>,
+    alloc: Global,
+    snapshot: &Snapshot,
+    rows: &[Leads],
+    proc: ProcId,
+    before: &[CodeStmt],
+    stmt: &CodeStmt,
+) -> Result<(), AllocError>
+    requires proc { proc.0 < length (procs_of snapshot.now) }
+    requires rows { AreInsides snapshot.now.codes proc.0 rows.now }
+    ensures { OnOk result (kept.new ≡ keep_all 32 same_found kept.old (filter_map asked (led_on (over_all (results snapshot.now.codes proc.0) (block_of before.now)) (leads_in (results snapshot.now.codes proc.0) (insides snapshot.now.codes proc.0) proc (stmt_of stmt.now))))) }
+{
+    if kept.len() >= 32 {
+        return Ok(());
+    }
+    let behind = leads_in(alloc, snapshot, rows, proc, stmt)?;
+    keep_over_all(kept, snapshot, proc, before, behind.as_slice())
+}
+
+/// What the sites of a procedure and of its calls want of answers: the first 32 different ones. `rows` has the conditions of
+/// the sites in each procedure before it.
 pub(crate) fn first_wanted(
     alloc: Global,
     snapshot: &Snapshot,
+    rows: &[Leads],
     proc: ProcId,
 ) -> Result<Items<Found>, AllocError>
-    requires { proc.0 < length (procs_of snapshot.now) }
+    requires proc { proc.0 < length (procs_of snapshot.now) }
+    requires rows { AreInsides snapshot.now.codes proc.0 rows.now }
     ensures { IfOk result (λ found. found ≡ first_wanted snapshot.now proc.0) }
 {
-    let all = wanted_by(alloc, snapshot, proc)?;
-    first_of(alloc, all.as_slice())
+    let block = snapshot.code(proc).block.as_slice();
+    let mut kept = Items::new(alloc);
+    for i in 0..block.len() {
+        keep_wanted(
+            &mut kept,
+            alloc,
+            snapshot,
+            rows,
+            proc,
+            &block[..i],
+            &block[i],
+        )?;
+    }
+    Ok(kept)
 }
 
 fn cond_of(cond: Condition) -> Cond
@@ -113,6 +170,7 @@ pub fn demands(alloc: Global, snapshot: &Snapshot, entry: ProcId) -> Result<Dema
     requires { slice_get (map is_entry (procs_of snapshot.now)) entry.0 ≡ Some true }
     ensures { IfOk result (AreDemands snapshot.now entry.0) }
 {
-    let wanted = first_wanted(alloc, snapshot, entry)?;
+    let rows = insides(alloc, snapshot, entry.0)?;
+    let wanted = first_wanted(alloc, snapshot, rows.as_slice(), entry)?;
     all_demands(alloc, wanted.as_slice())
 }

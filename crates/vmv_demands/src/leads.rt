@@ -1,9 +1,8 @@
-ghost use Rattle.std.specs.Prelude.{◌≡◌, ◌<◌, ◌++◌, length, slice_get, take, IfOk, OnOk};
-ghost use Rattle.std.specs.List.{filter_map};
+ghost use Rattle.std.specs.Prelude.{◌≡◌, ◌<◌, ◌≤◌, ◌++◌, length, IfOk, OnOk};
 ghost use Rattle.vmv_snapshot.specs.View.{stmt_of, block_of};
 ghost use Rattle.vmv_snapshot.specs.Resolution.{procs_of};
 ghost use Rattle.vmv_demands.specs.Back.{out_of_call, out_of_loop, over_all, results};
-ghost use Rattle.vmv_demands.specs.Leads.{lead_of, led_on, simple_leads, leads_in, leads_in_all, leads_in_code, insides, proc_leads, wanted_by, asked};
+ghost use Rattle.vmv_demands.specs.Leads.{lead_of, led_on, simple_leads, leads_in, leads_in_all, insides, proc_leads, asked, AreInsides};
 
 use crate::back::{out_of_call, out_of_loop, over_all};
 use crate::lead::{Found, Lead, SiteLead};
@@ -13,7 +12,7 @@ use std::alloc::{AllocError, Global};
 use vmv_snapshot::{CodeOperand, CodeRepeat, CodeStmt, ProcId, Simple, SiteId, Snapshot};
 
 /// Sites with where their conditions lead.
-type Leads = Items<SiteLead>;
+pub(crate) type Leads = Items<SiteLead>;
 
 /// Adds a site, unless its condition leads nowhere.
 fn push(leads: &mut Leads, site: SiteId, lead: Lead) -> Result<(), AllocError>
@@ -94,15 +93,18 @@ fn push_over_all(
     Ok(())
 }
 
-/// The conditions of the sites in a statement of the procedure of this number, led back to before it.
+/// The conditions of the sites in a statement of the procedure of this number, led back to before it. `rows` has those of
+/// each procedure before it.
 #[cycle(leads)]
-fn leads_in(
+pub(crate) fn leads_in(
     alloc: Global,
     snapshot: &Snapshot,
+    rows: &[Leads],
     proc: ProcId,
     stmt: &CodeStmt,
 ) -> Result<Leads, AllocError>
-    requires { proc.0 < length (procs_of snapshot.now) }
+    requires proc { proc.0 < length (procs_of snapshot.now) }
+    requires rows { AreInsides snapshot.now.codes proc.0 rows.now }
     ensures { IfOk result (λ leads. leads ≡ leads_in (results snapshot.now.codes proc.0) (insides snapshot.now.codes proc.0) proc (stmt_of stmt.now)) }
 {
     let mut leads = Leads::new(alloc);
@@ -116,13 +118,13 @@ fn leads_in(
             if callee.0 >= proc.0 {
                 return Ok(leads);
             }
-            let inside = proc_leads(alloc, snapshot, *callee)?;
+            let inside = &rows[callee.0 as usize];
             push_out_of_call(&mut leads, args.as_slice(), inside.as_slice())?;
             Ok(leads)
         }
         CodeStmt::If { first, second, .. } => {
-            leads.append(leads_in_all(alloc, snapshot, proc, first.as_slice())?)?;
-            leads.append(leads_in_all(alloc, snapshot, proc, second.as_slice())?)?;
+            leads.append(leads_in_all(alloc, snapshot, rows, proc, first.as_slice())?)?;
+            leads.append(leads_in_all(alloc, snapshot, rows, proc, second.as_slice())?)?;
             Ok(leads)
         }
         CodeStmt::Repeat(repeat) => {
@@ -131,7 +133,7 @@ fn leads_in(
                 index: repeat.site,
             };
             push(&mut leads, site, bound_needs(repeat.bound, repeat.cap))?;
-            let inside = leads_in_all(alloc, snapshot, proc, repeat.body.as_slice())?;
+            let inside = leads_in_all(alloc, snapshot, rows, proc, repeat.body.as_slice())?;
             push_out_of_loop(&mut leads, repeat, inside.as_slice())?;
             Ok(leads)
         }
@@ -143,31 +145,57 @@ fn leads_in(
 fn leads_in_all(
     alloc: Global,
     snapshot: &Snapshot,
+    rows: &[Leads],
     proc: ProcId,
     block: &[CodeStmt],
 ) -> Result<Leads, AllocError>
-    requires { proc.0 < length (procs_of snapshot.now) }
+    requires proc { proc.0 < length (procs_of snapshot.now) }
+    requires rows { AreInsides snapshot.now.codes proc.0 rows.now }
     ensures { IfOk result (λ leads. leads ≡ leads_in_all (results snapshot.now.codes proc.0) (insides snapshot.now.codes proc.0) proc (block_of block.now)) }
 {
     let mut leads = Leads::new(alloc);
     for i in 0..block.len() {
-        let behind = leads_in(alloc, snapshot, proc, &block[i])?;
+        let behind = leads_in(alloc, snapshot, rows, proc, &block[i])?;
         push_over_all(&mut leads, snapshot, proc, &block[..i], behind.as_slice())?;
     }
     Ok(leads)
 }
 
 /// The conditions of the sites in a procedure and in its calls, led to its start.
-#[cycle(leads)]
-fn proc_leads(alloc: Global, snapshot: &Snapshot, proc: ProcId) -> Result<Leads, AllocError>
-    requires { proc.0 < length (procs_of snapshot.now) }
+fn proc_leads(
+    alloc: Global,
+    snapshot: &Snapshot,
+    rows: &[Leads],
+    proc: ProcId,
+) -> Result<Leads, AllocError>
+    requires proc { proc.0 < length (procs_of snapshot.now) }
+    requires rows { AreInsides snapshot.now.codes proc.0 rows.now }
     ensures { IfOk result (λ leads. leads ≡ proc_leads snapshot.now.codes proc.0) }
 {
-    leads_in_all(alloc, snapshot, proc, snapshot.code(proc).block.as_slice())
+    let block = snapshot.code(proc).block.as_slice();
+    leads_in_all(alloc, snapshot, rows, proc, block)
+}
+
+/// The conditions of the sites in each of so many procedures and in its calls, led to its start: each made once, from
+/// those of the procedures before it, which are all that it calls.
+pub(crate) fn insides(
+    alloc: Global,
+    snapshot: &Snapshot,
+    count: u16,
+) -> Result<Items<Leads>, AllocError>
+    requires { count ≤ length (procs_of snapshot.now) }
+    ensures { IfOk result (AreInsides snapshot.now.codes count) }
+{
+    let mut rows = Items::new(alloc);
+    for n in 0..count {
+        let row = proc_leads(alloc, snapshot, rows.as_slice(), ProcId(n))?;
+        rows.push(row)?;
+    }
+    Ok(rows)
 }
 
 /// What has come to the answer of an outside function.
-fn asked(led: &SiteLead) -> Option<Found>
+pub(crate) fn asked(led: &SiteLead) -> Option<Found>
     ensures { result ≡ asked led.now }
 {
     match led.lead {
@@ -178,29 +206,4 @@ fn asked(led: &SiteLead) -> Option<Found>
         }),
         Lead::Nowhere | Lead::At(..) => None,
     }
-}
-
-fn all_asked(alloc: Global, leads: &[SiteLead]) -> Result<Items<Found>, AllocError>
-    ensures { IfOk result (λ found. found ≡ filter_map asked leads.now) }
-{
-    let mut all = Items::new(alloc);
-    for led in leads {
-        if let Some(found) = asked(led) {
-            all.push(found)?;
-        }
-    }
-    Ok(all)
-}
-
-/// What the sites of a procedure and of its calls want of answers, in text order.
-pub(crate) fn wanted_by(
-    alloc: Global,
-    snapshot: &Snapshot,
-    proc: ProcId,
-) -> Result<Items<Found>, AllocError>
-    requires { proc.0 < length (procs_of snapshot.now) }
-    ensures { IfOk result (λ found. found ≡ wanted_by snapshot.now.codes proc.0) }
-{
-    let leads = proc_leads(alloc, snapshot, proc)?;
-    all_asked(alloc, leads.as_slice())
 }

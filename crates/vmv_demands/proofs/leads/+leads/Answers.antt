@@ -2,33 +2,28 @@ use Rattle.std.proofs.Common.{◌≡◌, ◌+◌, ◌*◌, FitsSigned, w64, refl
 use Rattle.std.proofs.lemmas.Int.{to_z-of_z}
 use Rattle.vmv_snapshot.specs.View.{stmt_of, block_of}
 use Rattle.vmv_demands.specs.Needs.{bound_needs}
-use Rattle.vmv_demands.proofs.Sizes.{size, block_size, budget, falls_help, falls_first, falls_second, falls_repeat, falls_item, falls_proc}
-use Rattle.vmv_demands.proofs.Leading.{leads_plain, leads_if, leads_repeat, leads_help, leads_help_behind, no_leads, next_leads}
+use Rattle.vmv_demands.proofs.Sizes.{size, block_size, falls_first, falls_second, falls_repeat, falls_item}
+use Rattle.vmv_demands.proofs.Leading.{leads_plain, leads_if, leads_repeat, leads_help, leads_help_behind, no_leads, next_leads, row_is}
 use Rattle.vmv_demands.proofs.leads.+leads.Goals as goal
 
 pub leads_in-returns-then-callee-proc : goal.leads_in-returns-then-callee-proc
 leads_in-returns-then-callee-proc t c =
     leads_help_behind c.args.snapshot.now.codes c.args.proc c.args.stmt.now _ c.in-Help.callee _ c.in-Help.is _ c.new-leads.ensures c.if-callee-proc.true
 
-pub leads_in-proc_leads-requires : goal.leads_in-proc_leads-requires
-leads_in-proc_leads-requires t c =
-    let d : budget c.args.snapshot.now.codes c.args.proc.0 + 3 * size (stmt_of c.args.stmt.now) ≡ t = c.decreases in
-    (falls_help c.args.snapshot.now.codes t c.args.proc.0 c.args.stmt.now _ c.in-Help.callee _ c.in-Help.is c.if-callee-proc.false d, omega arith)
-
 pub leads_in-leads_in_all-requires : goal.leads_in-leads_in_all-requires
 leads_in-leads_in_all-requires t c =
-    let d : budget c.args.snapshot.now.codes c.args.proc.0 + 3 * size (stmt_of c.args.stmt.now) ≡ t = c.decreases in
-    (falls_first c.args.snapshot.now.codes t c.args.proc.0 c.args.stmt.now _ _ _ _ c.in-If.is c.as_slice-in-If.ensures d, c.requires)
+    let d : 2 * size (stmt_of c.args.stmt.now) ≡ t = c.decreases in
+    (falls_first t c.args.stmt.now _ _ _ _ c.in-If.is c.as_slice-in-If.ensures d, (c.requires.proc, c.requires.rows))
 
 pub leads_in-leads_in_all-requires-in-If : goal.leads_in-leads_in_all-requires-in-If
 leads_in-leads_in_all-requires-in-If t c =
-    let d : budget c.args.snapshot.now.codes c.args.proc.0 + 3 * size (stmt_of c.args.stmt.now) ≡ t = c.decreases in
-    (falls_second c.args.snapshot.now.codes t c.args.proc.0 c.args.stmt.now _ _ _ _ c.in-If.is c.as_slice-in-If-2.ensures d, c.requires)
+    let d : 2 * size (stmt_of c.args.stmt.now) ≡ t = c.decreases in
+    (falls_second t c.args.stmt.now _ _ _ _ c.in-If.is c.as_slice-in-If-2.ensures d, (c.requires.proc, c.requires.rows))
 
 pub leads_in-leads_in_all-requires-in-Repeat : goal.leads_in-leads_in_all-requires-in-Repeat
 leads_in-leads_in_all-requires-in-Repeat t c =
-    let d : budget c.args.snapshot.now.codes c.args.proc.0 + 3 * size (stmt_of c.args.stmt.now) ≡ t = c.decreases in
-    (falls_repeat c.args.snapshot.now.codes t c.args.proc.0 c.args.stmt.now _ _ c.in-Repeat.is c.as_slice-in-Repeat.ensures d, c.requires)
+    let d : 2 * size (stmt_of c.args.stmt.now) ≡ t = c.decreases in
+    (falls_repeat t c.args.stmt.now _ _ c.in-Repeat.is c.as_slice-in-Repeat.ensures d, (c.requires.proc, c.requires.rows))
 
 pub leads_in-returns-in_ok-push_simple-in-Plain : goal.leads_in-returns-in_ok-push_simple-in-Plain
 leads_in-returns-in_ok-push_simple-in-Plain t c =
@@ -36,7 +31,8 @@ leads_in-returns-in_ok-push_simple-in-Plain t c =
 
 pub leads_in-returns-in_ok-push_out_of_call-in-Help : goal.leads_in-returns-in_ok-push_out_of_call-in-Help
 leads_in-returns-in_ok-push_out_of_call-in-Help t c =
-    leads_help c.args.snapshot.now.codes c.args.proc c.args.stmt.now _ c.in-Help.callee _ c.in-Help.is _ c.new-leads.ensures _ _ _ c.as_slice.ensures c.if-callee-proc.false (c.as_slice-in-Help.ensures ∙ c.in_ok-inside-in-Help.ensures)
+    leads_help c.args.snapshot.now.codes c.args.proc c.args.stmt.now _ c.in-Help.callee _ c.in-Help.is _ c.new-leads.ensures _ _ _ c.as_slice.ensures c.if-callee-proc.false
+    (c.as_slice-in-Help.ensures ∙ row_is _ _ _ _ _ c.requires.rows c.if-callee-proc.false c.index-rows-callee.is)
     c.in_ok-push_out_of_call-in-Help.ensures
 
 pub leads_in-returns-in_ok-append-in-If-2 : goal.leads_in-returns-in_ok-append-in-If-2
@@ -55,14 +51,9 @@ leads_in_all-loop-i-init t c = no_leads _ _ _ c.args.block.now _ c.new-leads.ens
 
 pub leads_in_all-leads_in-requires : goal.leads_in_all-leads_in-requires
 leads_in_all-leads_in-requires t c =
-    let d : budget c.args.snapshot.now.codes c.args.proc.0 + 3 * block_size (block_of c.args.block.now) + 1 ≡ t = c.decreases in
-    (falls_item c.args.snapshot.now.codes t c.args.proc.0 c.args.block.now c.loop-i.i _ c.loop-i-test.true c.index-block-i.is d, c.requires)
+    let d : 2 * block_size (block_of c.args.block.now) + 1 ≡ t = c.decreases in
+    (falls_item t c.args.block.now c.loop-i.i _ c.loop-i-test.true c.index-block-i.is d, (c.requires.proc, c.requires.rows))
 
 pub leads_in_all-loop-i-preserved : goal.leads_in_all-loop-i-preserved
 leads_in_all-loop-i-preserved t c =
     next_leads _ _ c.args.proc c.args.block.now _ c.loop-i.i _ _ _ _ c.loop-i-test.true c.index-block-i.is refl c.loop-i.invariant (c.as_slice.ensures ∙ c.in_ok-behind.ensures) c.in_ok-push_over_all.ensures
-
-pub proc_leads-leads_in_all-requires : goal.proc_leads-leads_in_all-requires
-proc_leads-leads_in_all-requires t c =
-    let d : budget c.args.snapshot.now.codes (c.args.proc.0 + 1) ≡ t = c.decreases in
-    (falls_proc c.args.snapshot.now.codes t c.args.proc.0 c.code.result.now _ c.code.ensures.kept c.as_slice.ensures d, c.requires)

@@ -2,17 +2,14 @@ use Rattle.std.proofs.Common.{◌≡◌, ◌+◌, ◌*◌, take}
 use Rattle.vmv_snapshot.specs.View.{stmt_of, block_of}
 use Rattle.vmv_demands.specs.Back.{results}
 use Rattle.vmv_demands.specs.Leads.{leads_in_all, insides}
-use Rattle.vmv_demands.proofs.Sizes.{size, block_size, budget}
+use Rattle.vmv_demands.proofs.Sizes.{size, block_size}
 use Rattle.vmv_demands.proofs.leads.+leads.Given as goal
 
 abbrev pub decreases-leads_in : goal.decreases-leads_in
-decreases-leads_in l = budget l.snapshot.now.codes l.proc.0 + 3 * size (stmt_of l.stmt.now)
+decreases-leads_in l = 2 * size (stmt_of l.stmt.now)
 
 abbrev pub decreases-leads_in_all : goal.decreases-leads_in_all
-decreases-leads_in_all l = budget l.snapshot.now.codes l.proc.0 + 3 * block_size (block_of l.block.now) + 1
-
-abbrev pub decreases-proc_leads : goal.decreases-proc_leads
-decreases-proc_leads l = budget l.snapshot.now.codes (l.proc.0 + 1)
+decreases-leads_in_all l = 2 * block_size (block_of l.block.now) + 1
 
 abbrev pub invariant-leads_in_all-loop-i : goal.invariant-leads_in_all-loop-i
 invariant-leads_in_all-loop-i l =
