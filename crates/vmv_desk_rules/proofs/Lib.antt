@@ -1,4 +1,5 @@
 pub mod FitsLemmas
+pub mod RootLemmas
 pub mod WellLemmas
 pub mod ChainLemmas
 pub mod OnceLemmas

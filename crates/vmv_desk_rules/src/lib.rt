@@ -5,4 +5,4 @@ mod laws;
 mod outcome;
 
 pub use laws::{an_id_acts_once, done_acts_are_kept, steps_keep_rows_well, well_rows_keep_chains};
-pub use outcome::Outcome;
+pub use outcome::{Effect, Outcome};
