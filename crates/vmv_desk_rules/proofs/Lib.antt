@@ -3,3 +3,5 @@ pub mod RootLemmas
 pub mod WellLemmas
 pub mod ChainLemmas
 pub mod OnceLemmas
+pub mod BegunLemmas
+pub mod MigratingLemmas

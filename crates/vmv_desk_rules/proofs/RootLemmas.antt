@@ -48,7 +48,7 @@ root_from n d [] numbered e = absurd (cc e)
 root_from n d (v ∷ rest) numbered e =
     from_step n d v rest (is_root v.row) (has_root rest) refl numbered.0 e (λ k any. root_from (n + 1) k rest numbered.1 any)
 
-below_step : (n d number : ℕ) (b : Bool) → number ≡ n → d < n → cond b number d < n + 1
+pub below_step : (n d number : ℕ) (b : Bool) → number ≡ n → d < n → cond b number d < n + 1
 below_step n d number true at h = omega (arith, at)
 below_step n d number false at h = omega (arith, h)
 
@@ -60,11 +60,11 @@ root_below n d (v ∷ rest) numbered h =
 
 -- the text of the latest root
 
-here_step : (v : Version) (found : Option Version) (b : Bool) → b ≡ true → option_map (λ (x : Version). x.text) (cond b (Some v) found) ≡ Some v.text
+pub here_step : (v : Version) (found : Option Version) (b : Bool) → b ≡ true → option_map (λ (x : Version). x.text) (cond b (Some v) found) ≡ Some v.text
 here_step v found true e = refl
 here_step v found false e = absurd (cc e)
 
-later_step : (v : Version) (found : Option Version) (b : Bool) → b ≡ false → option_map (λ (x : Version). x.text) (cond b (Some v) found) ≡ option_map (λ (x : Version). x.text) found
+pub later_step : (v : Version) (found : Option Version) (b : Bool) → b ≡ false → option_map (λ (x : Version). x.text) (cond b (Some v) found) ≡ option_map (λ (x : Version). x.text) found
 later_step v found true e = absurd (cc e)
 later_step v found false e = refl
 
@@ -184,7 +184,7 @@ all_behind n d (v ∷ rest) numbered e straight against =
 
 -- the chain's versions
 
-numbers_from : (low n : ℕ) (vs : List Version) → low ≤ n → AreNumbered n (rows_of vs) → AllByRecursion (λ v. low ≤ v.row.number) vs
+pub numbers_from : (low n : ℕ) (vs : List Version) → low ≤ n → AreNumbered n (rows_of vs) → AllByRecursion (λ v. low ≤ v.row.number) vs
 numbers_from low n [] le numbered = tt
 numbers_from low n (v ∷ rest) le numbered = let at = numbered.0 in (omega (arith, at, le), numbers_from low (n + 1) rest (omega (arith, le)) numbered.1)
 
