@@ -15,56 +15,58 @@ use Rattle.vmv_keeper.specs.declared.reply.Reply.{Reply}
 use Rattle.vmv_keeper.specs.declared.reply.Reply.TheVariants.{Base, Pending, NotFound}
 use Rattle.vmv_keeper.specs.declared.judge.Compared.{Compared}
 use Rattle.vmv_keeper.specs.declared.act.Query.{Query}
-use Rattle.vmv_keeper.specs.Tables.{Tables, is_member, is_submission, waiting_as, project_named, held_of, bench_of, held_in, submitted_of, submission_in, text_in}
+use Rattle.vmv_keeper.specs.Tables.{Tables, is_member, is_submission, root_after, root_number, waiting_as, project_named, held_of, bench_of, held_in, submitted_of, submission_in, text_in}
 use Rattle.vmv_keeper.specs.Outside.{IsAsIn, OfTold}
 use Rattle.vmv_keeper.specs.Formed.{AreFormed, IsProject, IsHeld, Rises, is_bench_of}
 use Rattle.vmv_keeper.specs.Changes.{waiting_text}
 use Rattle.vmv_keeper.proofs.FormedReads.{IsProject-found}
 use Rattle.vmv_keeper.proofs.ListChanges.{length_map-same}
-use Rattle.vmv_desk_rules.specs.Causes.{Meaning, base_text}
+use Rattle.vmv_desk_rules.specs.Causes.{Meaning, base_text, root_text}
 use Rattle.vmv_desk_rules.specs.Step.{report_of, told_of, answer_on}
 use Rattle.vmv_desk.specs.AtHand.{Agrees, OfHeld, is_queued, has_member}
 use Rattle.vmv_desk.specs.Asked.{row_of, row_in, put_before, rows_by, rows_in, put_all}
 use Rattle.vmv_desk.proofs.HeldLemmas.{OfHeld_all, queued_same, find_bench}
-use Rattle.vmv_desk.proofs.TextsLemmas.{submission_found, text_found}
+use Rattle.vmv_desk.proofs.TextsLemmas.{submission_found, text_found, base_found, root_found}
 
 -- the report on a submission
 
 abbrev reported : (List ℕ → List ℕ → Compared) → ℕ → Project → Reply
-reported C s p = cond (is_some (waiting_as s p)) (report_of (C (base_text p) (waiting_text s p))) NotFound
+reported C s p = cond (is_some (waiting_as s p)) (report_of (root_number p) (C (root_text p) (waiting_text s p))) NotFound
 
 pub not_reported : (told : Option Tables) (owner name : List ℕ) (held : Held) (queue : Bench) (s : ℕ) (C : List ℕ → List ℕ → Compared) → is_queued queue s ≡ false
     → OfHeld told owner name held (λ p. queue ≡ bench_of p → NotFound ≡ reported C s p)
 not_reported told owner name held queue s C absent =
     OfHeld_all told owner name held (λ p. queue ≡ bench_of p → NotFound ≡ reported C s p) (λ p same queued.
     let none : is_some (waiting_as s p) ≡ false = sym (queued_same s p.pending) ∙ sym (ap (λ q. is_queued q s) queued) ∙ absent in
-    sym (ap (λ b. cond b (report_of (C (base_text p) (waiting_text s p))) NotFound) none))
+    sym (ap (λ b. cond b (report_of (root_number p) (C (root_text p) (waiting_text s p))) NotFound) none))
 
 given_some : (submitted : Submitted) (found : Option Waiting) → Some submitted ≡ option_map submitted_of found → is_some found ≡ true
 given_some submitted None e = absurd (cc e)
 given_some submitted (Some w) e = refl
 
 pub report_found : {E : Type 0} (told then : Option Tables) (owner name : List ℕ) (held : Held) (queue : Bench) (s n : ℕ) (C : List ℕ → List ℕ → Compared)
-    (submitted : Submitted) (base : List ℕ) (result : Result Reply E)
-    → IsHeld owner held → n ≡ length held.versions → IsAsIn (submission_in owner name s) told (Some submitted) → then ≡ told
-    → IsAsIn (text_in owner name n) then (Some base) → IfOk result (λ reply. reply ≡ report_of (C base submitted.text))
+    (submitted : Submitted) (root : List ℕ) (result : Result Reply E)
+    → IsHeld owner held → n ≡ root_after 0 held.versions → IsAsIn (submission_in owner name s) told (Some submitted) → then ≡ told
+    → IsAsIn (text_in owner name n) then (Some root) → IfOk result (λ reply. reply ≡ report_of n (C root submitted.text))
     → IfOk result (λ reply. OfHeld told owner name held (λ p. queue ≡ bench_of p → reply ≡ reported C s p))
-report_found told then owner name held queue s n C submitted base (Err e) good many given kept read found = tt
-report_found None then owner name held queue s n C submitted base (Ok reply) good many given kept read found = tt
-report_found (Some tables) then owner name held queue s n C submitted base (Ok reply) good many given kept read found = λ p named same queued.
-    let R : Option Tables → Type 0 = λ t. IsAsIn (text_in owner name n) t (Some base) in
+report_found told then owner name held queue s n C submitted root (Err e) good at given kept read found = tt
+report_found None then owner name held queue s n C submitted root (Ok reply) good at given kept read found = tt
+report_found (Some tables) then owner name held queue s n C submitted root (Ok reply) good at given kept read found = λ p named same queued.
+    let R : Option Tables → Type 0 = λ t. IsAsIn (text_in owner name n) t (Some root) in
     let text = submission_found tables owner name s p submitted named given in
-    let here = text_found tables owner name held n p (Some base) named good many same (subst R kept read) in
-    let is_base : base ≡ base_text p = cc here in
+    let rooted = root_found owner held n p good at same in
+    let here = text_found tables owner name n p (Some root) (root_text p) named rooted.1 (subst R kept read) in
+    let is_root : root ≡ root_text p = cc here in
     let there = given_some submitted (waiting_as s p) (given ∙ ap (option_and_then (λ q. option_map submitted_of (waiting_as s q))) named) in
-    found ∙ ap (λ b. report_of (C b submitted.text)) is_base ∙ ap (λ t. report_of (C (base_text p) t)) text
-    ∙ sym (ap (λ b. cond b (report_of (C (base_text p) (waiting_text s p))) NotFound) there)
+    found ∙ ap (λ m. report_of m (C root submitted.text)) rooted.0 ∙ ap (λ b. report_of (root_number p) (C b submitted.text)) is_root
+    ∙ ap (λ t. report_of (root_number p) (C (root_text p) t)) text
+    ∙ sym (ap (λ b. cond b (report_of (root_number p) (C (root_text p) (waiting_text s p))) NotFound) there)
 
 pub base_told : (told : Option Tables) (owner name : List ℕ) (held : Held) (n : ℕ) (text : List ℕ) → IsHeld owner held → n ≡ length held.versions
     → IsAsIn (text_in owner name n) told (Some text) → OfHeld told owner name held (λ p. Base n text ≡ Base (length p.versions) (base_text p))
 base_told None owner name held n text good many read = tt
 base_told (Some tables) owner name held n text good many read = λ p named same.
-    let here = text_found tables owner name held n p (Some text) named good many same read in
+    let here = text_found tables owner name n p (Some text) (base_text p) named (base_found owner held n p good many same) read in
     let is_base : text ≡ base_text p = cc here in
     let last : n ≡ length p.versions = many ∙ ap (λ (h : Held). length h.versions) same ∙ length_map-same (λ (v : Version). v.row) p.versions in
     ap (λ m. Base m text) last ∙ ap (Base (length p.versions)) is_base

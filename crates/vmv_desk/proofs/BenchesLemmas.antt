@@ -78,24 +78,24 @@ found_fits None p P h e = absurd (cc e)
 found_fits (Some q) p P h e = let same : q ≡ p = cc e in subst P same h
 
 -- the queues after an act that fits are those of the projects after it
-pub queues_follow : (ps : List Project) (caller : List ℕ) (act : Act) (reply : Reply) → ActFits ps caller act reply
+pub queues_follow : (ps : List Project) (caller : List ℕ) (act : Act) (reply : Reply) (against : ℕ) → ActFits ps caller act reply against
     → queues_after caller act reply (map bench_of ps) ≡ map bench_of (projects_after caller act ps)
-queues_follow ps caller (OpenProject name text) reply fits = sym (map_push bench_of ps (opened caller name text))
-queues_follow ps caller (AddMember owner project member) reply fits =
+queues_follow ps caller (OpenProject name text) reply against fits = sym (map_push bench_of ps (opened caller name text))
+queues_follow ps caller (AddMember owner project member) reply against fits =
     changed_same (is_bench_of owner project) (map bench_of ps)
     ∙ changed_map bench_of (is_named owner project) (is_bench_of owner project) (with_member member) (λ b. b) (λ p. refl) ps
     (λ p found. member_bench_step member p (is_member p member))
-queues_follow ps caller (Submit owner project text) reply fits =
+queues_follow ps caller (Submit owner project text) reply against fits =
     changed_map bench_of (is_named owner project) (is_bench_of owner project) (with_submission caller text) (with_number (submitted_number reply)) (λ p. refl) ps
     (λ p found. let fit = found_fits (project_in ps owner project) p _ fits found in
     ap (λ r. with_number (submitted_number r) (bench_of p)) fit.2 ∙ submitted_bench caller text p fit.1.0)
-queues_follow ps caller (Withdraw owner project submission) reply fits =
+queues_follow ps caller (Withdraw owner project submission) reply against fits =
     changed_map bench_of (is_named owner project) (is_bench_of owner project) (project_after caller (Withdraw owner project submission)) (without_number submission) (λ p. refl) ps
     (λ p found. left submission p)
-queues_follow ps caller (Accept owner project submission) reply fits =
+queues_follow ps caller (Accept owner project submission) reply against fits =
     changed_map bench_of (is_named owner project) (is_bench_of owner project) (project_after caller (Accept owner project submission)) (without_number submission) (λ p. refl) ps
     (λ p found. left submission p)
-queues_follow ps caller (Waive owner project submission) reply fits =
+queues_follow ps caller (Waive owner project submission) reply against fits =
     changed_map bench_of (is_named owner project) (is_bench_of owner project) (project_after caller (Waive owner project submission)) (without_number submission) (λ p. refl) ps
     (λ p found. left submission p)
 
@@ -105,4 +105,4 @@ pub agrees_after : (told then : Option Tables) (change : Change) (queues new : L
 agrees_after None then change queues new agrees fits e q = let P : Option Tables → Type 0 = λ t. Agrees t new in subst P (sym e) tt
 agrees_after (Some tables) then change queues new agrees fits e q =
     let P : Option Tables → Type 0 = λ t. Agrees t new in
-    subst P (sym e) (q ∙ ap (queues_after change.caller change.act change.reply) agrees ∙ queues_follow tables.projects change.caller change.act change.reply fits.act_fits)
+    subst P (sym e) (q ∙ ap (queues_after change.caller change.act change.reply) agrees ∙ queues_follow tables.projects change.caller change.act change.reply change.against fits.act_fits)

@@ -14,12 +14,13 @@ use Rattle.vmv_keeper.specs.declared.reply.Reply.TheVariants.{Members, Accepted,
 use Rattle.vmv_keeper.specs.Tables.{Tables, is_same, is_member, is_named, is_submission, waiting_as, project_named, held_of, bench_of, held_in}
 use Rattle.vmv_keeper.specs.Outside.{IsAsIn}
 use Rattle.vmv_keeper.specs.Formed.{is_bench_of}
-use Rattle.vmv_keeper.specs.Changes.{reply_to, owner_of, name_of}
+use Rattle.vmv_keeper.specs.Changes.{reply_to, against_of, owner_of, name_of}
 use Rattle.vmv_keeper.proofs.ListChanges.{length_map-same}
+use Rattle.vmv_desk_rules.specs.declared.outcome.Effect.{Effect}
 use Rattle.vmv_desk_rules.specs.declared.outcome.Outcome.{Outcome}
 use Rattle.vmv_desk_rules.specs.declared.outcome.Outcome.TheVariants.{Done, NotDone}
-use Rattle.vmv_desk_rules.specs.Causes.{Meaning, cause_if, tried, row_causes, judge_causes, outcome_on}
-use Rattle.vmv_desk.specs.AtHand.{Agrees, OfHeld, Waits, causes_at, reply_at, first_cause, has_member, is_queued}
+use Rattle.vmv_desk_rules.specs.Causes.{Meaning, cause_if, tried, effect_on, row_causes, judge_causes, outcome_on}
+use Rattle.vmv_desk.specs.AtHand.{Agrees, OfHeld, Waits, causes_at, reply_at, against_at, effect_at, first_cause, has_member, is_queued}
 
 -- what holds of the project that is at hand
 
@@ -74,24 +75,37 @@ reply_same (Withdraw owner project submission) p = refl
 reply_same (Accept owner project submission) p = ap (λ n. Accepted (n + 1)) (length_map-same (λ (v : Version). v.row) p.versions)
 reply_same (Waive owner project submission) p = ap (λ n. Waived (n + 1)) (length_map-same (λ (v : Version). v.row) p.versions)
 
+against_same : (act : Act) (p : Project) → against_at act (held_of p) ≡ against_of act p
+against_same (OpenProject name text) p = refl
+against_same (AddMember owner project member) p = refl
+against_same (Submit owner project text) p = refl
+against_same (Withdraw owner project submission) p = refl
+against_same (Accept owner project submission) p = refl
+against_same (Waive owner project submission) p = refl
+
+effect_same : (act : Act) (p : Project) → effect_at act (held_of p) ≡ effect_on act p
+effect_same act p =
+    let whole : Reply → ℕ → Effect = λ reply against. record { reply = reply; against = against } in
+    ap (λ r. whole r (against_at act (held_of p))) (reply_same act p) ∙ ap (whole (reply_to act p)) (against_same act p)
+
 -- causes that are tried in their order
 
-pub tried_stop : (front back : List (Option Reply)) (done r : Reply) → Some r ≡ first_cause front → tried (front ++ back) done ≡ NotDone r
+pub tried_stop : (front back : List (Option Reply)) (done : Effect) (r : Reply) → Some r ≡ first_cause front → tried (front ++ back) done ≡ NotDone r
 tried_stop [] back done r e = absurd (cc e)
 tried_stop (None ∷ front) back done r e = tried_stop front back done r e
 tried_stop (Some cause ∷ front) back done r e = let same : cause ≡ r = cc e in ap NotDone same
 
-pub tried_go : (front back : List (Option Reply)) (done : Reply) → None ≡ first_cause front → tried (front ++ back) done ≡ tried back done
+pub tried_go : (front back : List (Option Reply)) (done : Effect) → None ≡ first_cause front → tried (front ++ back) done ≡ tried back done
 tried_go [] back done e = refl
 tried_go (None ∷ front) back done e = tried_go front back done e
 tried_go (Some cause ∷ front) back done e = absurd (cc e)
 
-pub tried_last : (causes : List (Option Reply)) (done r : Reply) → Some r ≡ first_cause causes → tried causes done ≡ NotDone r
+pub tried_last : (causes : List (Option Reply)) (done : Effect) (r : Reply) → Some r ≡ first_cause causes → tried causes done ≡ NotDone r
 tried_last [] done r e = absurd (cc e)
 tried_last (None ∷ causes) done r e = tried_last causes done r e
 tried_last (Some cause ∷ causes) done r e = let same : cause ≡ r = cc e in ap NotDone same
 
-pub tried_done : (causes : List (Option Reply)) (done : Reply) → None ≡ first_cause causes → tried causes done ≡ Done done
+pub tried_done : (causes : List (Option Reply)) (done : Effect) → None ≡ first_cause causes → tried causes done ≡ Done done
 tried_done [] done e = refl
 tried_done (None ∷ causes) done e = tried_done causes done e
 tried_done (Some cause ∷ causes) done e = absurd (cc e)
@@ -117,9 +131,9 @@ waits_of caller (Waive owner project submission) p e =
 
 -- what comes of a member's act
 outcome_member : (J : Meaning) (caller : List ℕ) (act : Act) (p : Project) → is_member p caller ≡ true
-    → outcome_on J caller act (Some p) ≡ tried (row_causes caller act p ++ judge_causes J act p) (reply_to act p)
+    → outcome_on J caller act (Some p) ≡ tried (row_causes caller act p ++ judge_causes J act p) (effect_on act p)
 outcome_member J caller act p member =
-    ap (λ b. tried (cause_if (not b) NotFound ∷ (row_causes caller act p ++ judge_causes J act p)) (reply_to act p)) member
+    ap (λ b. tried (cause_if (not b) NotFound ∷ (row_causes caller act p ++ judge_causes J act p)) (effect_on act p)) member
 
 pub rows_of : (caller : List ℕ) (act : Act) (held : Held) (queue : Bench) (p : Project) → held ≡ held_of p → queue ≡ bench_of p
     → first_cause (causes_at caller act held queue) ≡ first_cause (row_causes caller act p)
@@ -136,7 +150,7 @@ pub stopped_by_rows : (told : Option Tables) (owner name : List ℕ) (J : Meanin
 stopped_by_rows told owner name J caller act held queue r member e =
     OfHeld_all told owner name held (λ p. queue ≡ bench_of p → NotDone r ≡ outcome_on J caller act (Some p)) (λ p same queued.
     sym (outcome_member J caller act p (member_of held caller p same member)
-    ∙ tried_stop (row_causes caller act p) (judge_causes J act p) (reply_to act p) r (e ∙ rows_of caller act held queue p same queued)))
+    ∙ tried_stop (row_causes caller act p) (judge_causes J act p) (effect_on act p) r (e ∙ rows_of caller act held queue p same queued)))
 
 pub stopped_by_judge : (told : Option Tables) (owner name : List ℕ) (J : Meaning) (caller : List ℕ) (act : Act) (held : Held) (queue : Bench) (r : Reply) (cause : Option Reply)
     → has_member held caller ≡ true → None ≡ first_cause (causes_at caller act held queue) → cause ≡ Some r
@@ -146,20 +160,20 @@ stopped_by_judge told owner name J caller act held queue r cause member e is fin
     OfHeld_map told owner name held (λ p. Waits act p → cause ≡ first_cause (judge_causes J act p)) (λ p. queue ≡ bench_of p → NotDone r ≡ outcome_on J caller act (Some p)) (λ p same found queued.
     let none = e ∙ rows_of caller act held queue p same queued in
     sym (outcome_member J caller act p (member_of held caller p same member)
-    ∙ tried_go (row_causes caller act p) (judge_causes J act p) (reply_to act p) none
-    ∙ tried_last (judge_causes J act p) (reply_to act p) r (sym is ∙ found (waits_of caller act p none)))) finds
+    ∙ tried_go (row_causes caller act p) (judge_causes J act p) (effect_on act p) none
+    ∙ tried_last (judge_causes J act p) (effect_on act p) r (sym is ∙ found (waits_of caller act p none)))) finds
 
-pub done_at : (told : Option Tables) (owner name : List ℕ) (J : Meaning) (caller : List ℕ) (act : Act) (held : Held) (queue : Bench) (r : Reply) (cause : Option Reply)
-    → has_member held caller ≡ true → None ≡ first_cause (causes_at caller act held queue) → cause ≡ None → r ≡ reply_at act held
+pub done_at : (told : Option Tables) (owner name : List ℕ) (J : Meaning) (caller : List ℕ) (act : Act) (held : Held) (queue : Bench) (r : Effect) (cause : Option Reply)
+    → has_member held caller ≡ true → None ≡ first_cause (causes_at caller act held queue) → cause ≡ None → r ≡ effect_at act held
     → OfHeld told owner name held (λ p. Waits act p → cause ≡ first_cause (judge_causes J act p))
     → OfHeld told owner name held (λ p. queue ≡ bench_of p → Done r ≡ outcome_on J caller act (Some p))
 done_at told owner name J caller act held queue r cause member e is reply finds =
     OfHeld_map told owner name held (λ p. Waits act p → cause ≡ first_cause (judge_causes J act p)) (λ p. queue ≡ bench_of p → Done r ≡ outcome_on J caller act (Some p)) (λ p same found queued.
     let none = e ∙ rows_of caller act held queue p same queued in
-    ap Done (reply ∙ ap (reply_at act) same ∙ reply_same act p)
+    ap Done (reply ∙ ap (effect_at act) same ∙ effect_same act p)
     ∙ sym (outcome_member J caller act p (member_of held caller p same member)
-    ∙ tried_go (row_causes caller act p) (judge_causes J act p) (reply_to act p) none
-    ∙ tried_done (judge_causes J act p) (reply_to act p) (sym is ∙ found (waits_of caller act p none)))) finds
+    ∙ tried_go (row_causes caller act p) (judge_causes J act p) (effect_on act p) none
+    ∙ tried_done (judge_causes J act p) (effect_on act p) (sym is ∙ found (waits_of caller act p none)))) finds
 
 -- the project and its queue that a store and the queues give
 

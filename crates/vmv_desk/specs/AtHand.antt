@@ -8,13 +8,14 @@ use Rattle.vmv_keeper.specs.declared.act.Act.{Act}
 use Rattle.vmv_keeper.specs.declared.act.Act.TheVariants.{OpenProject, AddMember, Submit, Withdraw, Accept, Waive}
 use Rattle.vmv_keeper.specs.declared.reply.Reply.{Reply}
 use Rattle.vmv_keeper.specs.declared.reply.Reply.TheVariants.{Opened, Members, Submitted, Withdrawn, Accepted, Waived, NotFound, NotAllowed, Full, IdReused}
-use Rattle.vmv_keeper.specs.Tables.{Tables, is_same, project_named, waiting_as, held_of, benches_in}
+use Rattle.vmv_keeper.specs.Tables.{Tables, is_same, root_after, project_named, waiting_as, held_of, benches_in}
 use Rattle.vmv_keeper.specs.Outside.{OfTold}
 use Rattle.vmv_keeper.specs.Formed.{is_bench_of}
 use Rattle.vmv_keeper.specs.Changes.{changed}
 pub use Rattle.vmv_desk_rules.specs.Causes.{says}
 use Rattle.vmv_desk_rules.specs.Causes.{Meaning, cause_if}
 use Rattle.vmv_desk_rules.specs.Step.{Step}
+use Rattle.vmv_desk_rules.specs.declared.outcome.Effect.{Effect}
 use Rattle.vmv_keeper.specs.declared.change.Kept.{Kept}
 use Rattle.vmv_keeper.specs.declared.act.Command.{Command}
 use Rattle.vmv_desk.specs.Queues.{with_number, without_number}
@@ -58,6 +59,19 @@ reply_at (Submit owner project text) held = Submitted held.next
 reply_at (Withdraw owner project submission) held = Withdrawn submission
 reply_at (Accept owner project submission) held = Accepted (length held.versions + 1)
 reply_at (Waive owner project submission) held = Waived (length held.versions + 1)
+
+-- the number of the version that it was judged against
+abbrev pub against_at : Act → Held → ℕ
+against_at (OpenProject name text) held = 0
+against_at (AddMember owner project member) held = 0
+against_at (Submit owner project text) held = 0
+against_at (Withdraw owner project submission) held = 0
+against_at (Accept owner project submission) held = root_after 0 held.versions
+against_at (Waive owner project submission) held = 0
+
+-- what an act leaves that is done
+abbrev pub effect_at : Act → Held → Effect
+effect_at act held = record { reply = reply_at act held; against = against_at act held }
 
 -- what holds of the project that is at hand, where the rows are told
 abbrev pub OfHeld : Option Tables → List ℕ → List ℕ → Held → (Project → Type 0) → Type 0

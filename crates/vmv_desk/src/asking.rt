@@ -11,24 +11,29 @@ ghost use Rattle.vmv_desk.specs.Asked.{row_in, rows_in};
 
 use crate::queue::Queue;
 use crate::queues::queue_of;
-use crate::row_causes::is_member;
+use crate::row_causes::{is_member, root_of};
 use std::alloc::Global;
 use vmv_edge::Text;
 use vmv_keeper::{
     Compared, Held, Judge, KeepFault, Keeper, Label, PendingRow, PendingRows, Query, Reply,
 };
 
-// The report on a text, which is empty where a text doesn't parse.
-fn report(alloc: Global, said: Compared) -> Result<Reply, KeepFault>
-    ensures reply { IfOk result (λ reply. reply ≡ report_of said) }
+// The report on a text against the version of this number, which is empty where a text doesn't parse.
+fn report(alloc: Global, against: u32, said: Compared) -> Result<Reply, KeepFault>
+    ensures reply { IfOk result (λ reply. reply ≡ report_of against said) }
     ensures may { IfOk result (λ reply. IsTrue (is_report reply)) }
     ensures memory { IfErr result (λ fault. fault ≡ KeepFault.Memory) }
 {
     match said {
-        Compared::Judged { verdict, json } => Ok(Reply::Report { verdict, json }),
+        Compared::Judged { verdict, json } => Ok(Reply::Report {
+            verdict,
+            json,
+            against,
+        }),
         Compared::Unreadable { .. } => Ok(Reply::Report {
             verdict: 0,
             json: Text::from_slice(alloc, b"{}")?,
+            against,
         }),
     }
 }
@@ -37,15 +42,16 @@ fn report(alloc: Global, said: Compared) -> Result<Reply, KeepFault>
 fn judged_report<J: Judge>(
     alloc: Global,
     judge: &J,
-    base: &Text,
+    against: u32,
+    root: &Text,
     text: &Text,
 ) -> Result<Reply, KeepFault>
     ensures may { IfOk result (λ reply. IsTrue (is_report reply)) }
-    ensures reply { IfOk result (λ reply. reply ≡ report_of (J.compared judge.now base.now text.now)) }
+    ensures reply { IfOk result (λ reply. reply ≡ report_of against (J.compared judge.now root.now text.now)) }
     ensures memory { IfErr result (λ fault. fault ≡ KeepFault.Memory) }
 {
-    let said = judge.compare(alloc, base, text)?;
-    report(alloc, said)
+    let said = judge.compare(alloc, root, text)?;
+    report(alloc, against, said)
 }
 
 // The report on a submission that waits.
@@ -71,11 +77,11 @@ fn report_on<K: Keeper, J: Judge>(
     let Some(submitted) = keeper.submission(alloc, owner, project, submission)? else {
         return Ok(Reply::NotFound);
     };
-    let version = held.versions.len() as u32;
-    let Some(base) = keeper.text(alloc, owner, project, version)? else {
+    let against = root_of(held);
+    let Some(root) = keeper.text(alloc, owner, project, against)? else {
         return Ok(Reply::NotFound);
     };
-    judged_report(alloc, judge, &base, &submitted.text)
+    judged_report(alloc, judge, against, &root, &submitted.text)
 }
 
 // The latest version.

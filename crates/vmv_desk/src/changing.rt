@@ -48,6 +48,6 @@ pub(crate) fn change<K: Keeper, J: Judge>(
     }
     match outcome(alloc, keeper, queues, caller, act, judge)? {
         Outcome::NotDone { reply } => Ok(reply),
-        Outcome::Done { reply } => make(alloc, keeper, queues, caller, id, act, reply),
+        Outcome::Done { effect } => make(alloc, keeper, queues, caller, id, act, effect),
     }
 }

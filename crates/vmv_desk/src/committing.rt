@@ -9,6 +9,7 @@ ghost use Rattle.vmv_desk.specs.AtHand.{Agrees, IsOnProject, queues_after, submi
 use crate::queue::Queue;
 use crate::queues::{push_number, remove_number};
 use std::alloc::Global;
+use vmv_desk_rules::Effect;
 use vmv_keeper::{Act, Change, KeepFault, Keeper, Label, Reply};
 
 fn submitted_number(reply: &Reply) -> u32
@@ -102,22 +103,23 @@ pub(crate) fn make<K: Keeper>(
     caller: &Label,
     id: &Label,
     act: &Act,
-    reply: Reply,
+    effect: Effect,
 ) -> Result<Reply, KeepFault>
-    requires fits { OfTold (K.told keeper.old) (λ tables. Fits tables (record { caller = caller.now; id = id.now; act = act.now; reply = reply })) }
+    requires fits { OfTold (K.told keeper.old) (λ tables. Fits tables (record { caller = caller.now; id = id.now; act = act.now; reply = effect.reply; against = effect.against })) }
     requires agrees { Agrees (K.told keeper.old) queues.old.items }
-    ensures done { OnOk result (K.told keeper.new ≡ option_map (after (record { caller = caller.now; id = id.now; act = act.now; reply = reply })) (K.told keeper.old)) }
-    ensures reply { IfOk result (λ answer. answer ≡ reply) }
+    ensures done { OnOk result (K.told keeper.new ≡ option_map (after (record { caller = caller.now; id = id.now; act = act.now; reply = effect.reply; against = effect.against })) (K.told keeper.old)) }
+    ensures reply { IfOk result (λ answer. answer ≡ effect.reply) }
     ensures refused { OnErr result (K.told keeper.new ≡ K.told keeper.old) }
     ensures counted { Counts result (K.fault_count keeper.old) (K.fault_count keeper.new) }
     ensures agrees { Agrees (K.told keeper.new) queues.new.items }
 {
-    let answer = reply.copy(alloc)?;
+    let answer = effect.reply.copy(alloc)?;
     let change = Change {
         caller: *caller,
         id: *id,
         act: act.copy(alloc)?,
-        reply,
+        reply: effect.reply,
+        against: effect.against,
     };
     commit(alloc, keeper, queues, &change)?;
     Ok(answer)

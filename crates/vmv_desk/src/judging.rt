@@ -6,9 +6,10 @@ ghost use Rattle.vmv_keeper.specs.Tables.{waiting_as};
 ghost use Rattle.vmv_keeper.specs.Outside.{Counts};
 ghost use Rattle.vmv_keeper.specs.Formed.{IsHeld};
 ghost use Rattle.vmv_keeper.specs.Changes.{owner_of, name_of, waiting_text};
-ghost use Rattle.vmv_desk_rules.specs.Causes.{if_refused, if_vacuous, if_not_correct, base_text, judge_causes};
+ghost use Rattle.vmv_desk_rules.specs.Causes.{if_refused, if_vacuous, if_not_correct, root_text, judge_causes};
 ghost use Rattle.vmv_desk.specs.AtHand.{first_cause, OfHeld, says, Waits};
 
+use crate::row_causes::root_of;
 use std::alloc::Global;
 use vmv_edge::Text;
 use vmv_keeper::{Act, Compared, Held, Inspected, Judge, KeepFault, Keeper, Label, Reply};
@@ -58,18 +59,18 @@ fn not_correct(said: &Compared) -> Option<Reply>
     Some(Reply::NotCorrect { verdict })
 }
 
-// The causes against a text that is to be a version after another.
+// The causes against a text that is to be a version of another's chain.
 fn compared_cause<J: Judge>(
     alloc: Global,
     judge: &J,
-    base: &Text,
+    root: &Text,
     text: &Text,
 ) -> Result<Option<Reply>, KeepFault>
-    ensures cause { IfOk result (λ cause. cause ≡ first_cause (if_not_correct (J.compared judge.now base.now text.now) ∷ if_vacuous (J.inspected judge.now text.now) ∷ [])) }
+    ensures cause { IfOk result (λ cause. cause ≡ first_cause (if_not_correct (J.compared judge.now root.now text.now) ∷ if_vacuous (J.inspected judge.now text.now) ∷ [])) }
     ensures may { IfOk result (λ cause. IfSome cause (λ r. IsTrue (refuses_accepting r))) }
     ensures memory { IfErr result (λ fault. fault ≡ KeepFault.Memory) }
 {
-    if let Some(reply) = not_correct(&judge.compare(alloc, base, text)?) {
+    if let Some(reply) = not_correct(&judge.compare(alloc, root, text)?) {
         return Ok(Some(reply));
     }
     Ok(vacuous(judge.inspect(alloc, text)?))
@@ -86,7 +87,7 @@ fn accepting_cause<K: Keeper, J: Judge>(
     held: &Held,
 ) -> Result<Option<Reply>, KeepFault>
     requires { IsHeld owner.now held.now }
-    ensures told { IfOk result (λ cause. OfHeld (K.told keeper.old) owner.now project.now held.now (λ p. IsSome (waiting_as submission p) → cause ≡ first_cause (if_not_correct (J.compared judge.now (base_text p) (waiting_text submission p)) ∷ if_vacuous (J.inspected judge.now (waiting_text submission p)) ∷ []))) }
+    ensures told { IfOk result (λ cause. OfHeld (K.told keeper.old) owner.now project.now held.now (λ p. IsSome (waiting_as submission p) → cause ≡ first_cause (if_not_correct (J.compared judge.now (root_text p) (waiting_text submission p)) ∷ if_vacuous (J.inspected judge.now (waiting_text submission p)) ∷ []))) }
     ensures kept { K.told keeper.new ≡ K.told keeper.old }
     ensures counted { Counts result (K.fault_count keeper.old) (K.fault_count keeper.new) }
     ensures may { IfOk result (λ cause. IfSome cause (λ r. IsTrue (refuses_accepting r))) }
@@ -94,11 +95,11 @@ fn accepting_cause<K: Keeper, J: Judge>(
     let Some(submitted) = keeper.submission(alloc, owner, project, submission)? else {
         return Ok(Some(Reply::NotFound));
     };
-    let version = held.versions.len() as u32;
-    let Some(base) = keeper.text(alloc, owner, project, version)? else {
+    let against = root_of(held);
+    let Some(root) = keeper.text(alloc, owner, project, against)? else {
         return Ok(Some(Reply::NotFound));
     };
-    compared_cause(alloc, judge, &base, &submitted.text)
+    compared_cause(alloc, judge, &root, &submitted.text)
 }
 
 // The causes against a submission that is to be waived.

@@ -12,9 +12,9 @@ ghost use Rattle.vmv_desk.specs.AtHand.{Agrees, IsOnProject, OfHeld, says};
 use crate::judging::{judge_cause, refused, vacuous};
 use crate::queue::Queue;
 use crate::queues::{owned_count, queue_of};
-use crate::row_causes::{is_member, reply_to, row_cause};
+use crate::row_causes::{effect_on, is_member, row_cause};
 use std::alloc::Global;
-use vmv_desk_rules::Outcome;
+use vmv_desk_rules::{Effect, Outcome};
 use vmv_edge::Text;
 use vmv_keeper::{Act, Held, Judge, KeepFault, Keeper, Label, Reply};
 
@@ -52,7 +52,10 @@ fn opening<K: Keeper, J: Judge>(
         return Ok(Outcome::NotDone { reply });
     }
     Ok(Outcome::Done {
-        reply: Reply::Opened { version: 1 },
+        effect: Effect {
+            reply: Reply::Opened { version: 1 },
+            against: 0,
+        },
     })
 }
 
@@ -91,7 +94,7 @@ fn acting_on_held<K: Keeper, J: Judge>(
         return Ok(Outcome::NotDone { reply });
     }
     Ok(Outcome::Done {
-        reply: reply_to(act, held),
+        effect: effect_on(act, held),
     })
 }
 

@@ -3,11 +3,12 @@
 ghost use Rattle.std.specs.Prelude.{◌≡◌, ◌≤◌, ◌+◌, ◌∷◌, [], ◌&&◌, length, not, nat_le, nat_lt, IfSome, IsTrue, if◌then◌else◌};
 ghost use Rattle.vmv_keeper.specs.Formed.{IsDone};
 ghost use Rattle.vmv_desk_rules.specs.Replies.{may_refuse, refuses_adding, refuses_submitting, refuses_withdrawing, refuses_accepting, refuses_waiving};
-ghost use Rattle.vmv_keeper.specs.Tables.{is_same};
+ghost use Rattle.vmv_keeper.specs.Tables.{is_same, root_after};
 ghost use Rattle.vmv_desk_rules.specs.Causes.{cause_if};
-ghost use Rattle.vmv_desk.specs.AtHand.{first_cause, causes_at, has_member, is_queued, reply_at};
+ghost use Rattle.vmv_desk.specs.AtHand.{first_cause, causes_at, has_member, is_queued, reply_at, against_at, effect_at};
 
 use crate::queue::Queue;
+use vmv_desk_rules::Effect;
 use vmv_keeper::{Act, Held, Label, Reply};
 
 /// Whether a caller is a member of a project.
@@ -18,6 +19,19 @@ pub(crate) fn is_member(held: &Held, caller: &Label) -> bool
         .as_slice()
         .iter()
         .any(|member| *member == *caller)
+}
+
+/// The number of a project's latest root.
+pub(crate) fn root_of(held: &Held) -> u32
+    ensures { result ≡ root_after 0 held.now.versions }
+{
+    let mut root = 0;
+    for row in held.versions.as_slice() {
+        if row.is_root() {
+            root = row.number;
+        }
+    }
+    root
 }
 
 fn adding_cause(caller: &Label, owner: &Label, member: &Label, held: &Held) -> Option<Reply>
@@ -116,8 +130,7 @@ fn members_after(held: &Held, member: &Label) -> u32
     }
 }
 
-/// The reply of an act that is done.
-pub(crate) fn reply_to(act: &Act, held: &Held) -> Reply
+fn reply_to(act: &Act, held: &Held) -> Reply
     requires members { length held.now.members ≤ 64 }
     requires versions { length held.now.versions ≤ 1024 }
     ensures reply { result ≡ reply_at act.now held.now }
@@ -140,5 +153,27 @@ pub(crate) fn reply_to(act: &Act, held: &Held) -> Reply
         Act::Waive { .. } => Reply::Waived {
             version: held.versions.len() as u32 + 1,
         },
+    }
+}
+
+fn against_of(act: &Act, held: &Held) -> u32
+    ensures { result ≡ against_at act.now held.now }
+{
+    match act {
+        Act::Accept { .. } => root_of(held),
+        _ => 0,
+    }
+}
+
+/// What an act leaves that is done.
+pub(crate) fn effect_on(act: &Act, held: &Held) -> Effect
+    requires members { length held.now.members ≤ 64 }
+    requires versions { length held.now.versions ≤ 1024 }
+    ensures effect { result ≡ effect_at act.now held.now }
+    ensures done { IsDone act.now result.reply }
+{
+    Effect {
+        reply: reply_to(act, held),
+        against: against_of(act, held),
     }
 }

@@ -70,7 +70,7 @@ other_caller other id kept differ =
 acts_keep_others : (tables new : Tables) (caller id : List ℕ) (act : Act) (o : Outcome) (reply : Reply) (other its : List ℕ) → other ≢ caller
     → Acts tables caller id act o new reply → kept_under new other its ≡ kept_under tables other its
 acts_keep_others tables new caller id act (Done done) reply other its differ step =
-    let change : Change = record { caller = caller; id = id; act = act; reply = done } in
+    let change : Change = record { caller = caller; id = id; act = act; reply = done.reply; against = done.against } in
     ap (λ t. kept_under t other its) step.0 ∙ others_found_push (is_kept_under other its) tables.replies change (other_caller other its change differ)
 acts_keep_others tables new caller id act (NotDone cause) reply other its differ step = ap (λ t. kept_under t other its) step.0
 

@@ -10,15 +10,16 @@ use Rattle.vmv_keeper.specs.declared.act.Query.{Query}
 use Rattle.vmv_keeper.specs.declared.act.Command.{Command}
 use Rattle.vmv_keeper.specs.declared.act.Command.TheVariants.{Change as ToChange, Ask}
 use Rattle.vmv_keeper.specs.declared.reply.Reply.{Reply}
-use Rattle.vmv_keeper.specs.declared.reply.Reply.TheVariants.{Opened, NotFound, Full, AlreadyOpen}
+use Rattle.vmv_keeper.specs.declared.reply.Reply.TheVariants.{NotFound, Full, AlreadyOpen}
 use Rattle.vmv_keeper.specs.Formed.{AreFormed, IsProject, FirstIs}
 use Rattle.vmv_keeper.specs.Tables.{Tables, is_same, is_named, is_member, is_kept_under, kept_under, project_named, project_count, reply_count}
-use Rattle.vmv_keeper.specs.Changes.{changed, opened, project_after, projects_after, owner_of, name_of, reply_to}
+use Rattle.vmv_keeper.specs.Changes.{changed, opened, project_after, projects_after, owner_of, name_of}
 use Rattle.vmv_keeper.proofs.FormedReads.{count_by-cons, and-true_both}
 use Rattle.vmv_keeper.proofs.ListChanges.{All-weaken}
+use Rattle.vmv_desk_rules.specs.declared.outcome.Effect.{Effect}
 use Rattle.vmv_desk_rules.specs.declared.outcome.Outcome.{Outcome}
 use Rattle.vmv_desk_rules.specs.declared.outcome.Outcome.TheVariants.{Done, NotDone}
-use Rattle.vmv_desk_rules.specs.Causes.{Meaning, cause_if, tried, if_refused, if_vacuous, row_causes, judge_causes, outcome_on, outcome_of, outcome}
+use Rattle.vmv_desk_rules.specs.Causes.{Meaning, cause_if, tried, effect_on, opening, if_refused, if_vacuous, row_causes, judge_causes, outcome_on, outcome_of, outcome}
 use Rattle.vmv_desk_rules.specs.Step.{Step, Changes, Acts, answer_on, answer, told_of, asked_owner, asked_name}
 use Rattle.vmv_desk_laws.specs.Seen.{seen_by, caller_of}
 use Rattle.vmv_desk_rules.proofs.FitsLemmas.{tried_none, cause_none, not_false, outcome_step}
@@ -151,7 +152,7 @@ member_stays caller (Waive owner project s) p e = e
 -- what comes of an act, by what its caller sees
 
 hidden_outcome : (J : Meaning) (caller : List ℕ) (act : Act) (p : Project) → is_member p caller ≡ false → outcome_on J caller act (Some p) ≡ outcome_on J caller act None
-hidden_outcome J caller act p e = ap (λ b. tried (cause_if (not b) NotFound ∷ (row_causes caller act p ++ judge_causes J act p)) (reply_to act p)) e
+hidden_outcome J caller act p e = ap (λ b. tried (cause_if (not b) NotFound ∷ (row_causes caller act p ++ judge_causes J act p)) (effect_on act p)) e
 
 seen_on : (J : Meaning) (tables : Tables) (caller : List ℕ) (act : Act) (owner name : List ℕ) → AreFormed tables
     → outcome_on J caller act (project_named (seen_by caller tables) owner name) ≡ outcome_on J caller act (project_named tables owner name)
@@ -166,10 +167,10 @@ named_seen caller name p good e = owned_seen caller p good (and-true_both (is_sa
 
 seen_of : (J : Meaning) (tables : Tables) (caller : List ℕ) (act : Act) → AreFormed tables → outcome_of J (seen_by caller tables) caller act ≡ outcome_of J tables caller act
 seen_of J tables caller (OpenProject name text) formed =
-    ap (λ found. tried (cause_if (is_some found) AlreadyOpen ∷ cause_if (nat_le 64 (project_count (seen_by caller tables) caller)) (Full 2) ∷ if_refused (J.inspected text) ∷ if_vacuous (J.inspected text) ∷ []) (Opened 1))
+    ap (λ found. tried (cause_if (is_some found) AlreadyOpen ∷ cause_if (nat_le 64 (project_count (seen_by caller tables) caller)) (Full 2) ∷ if_refused (J.inspected text) ∷ if_vacuous (J.inspected text) ∷ []) opening)
     (find_part (is_named caller name) (λ p. is_member p caller) tables.projects
     (All-weaken IsProject (λ p. is_named caller name p ≡ true → is_member p caller ≡ true) (named_seen caller name) tables.projects formed.each))
-    ∙ ap (λ n. tried (cause_if (is_some (project_named tables caller name)) AlreadyOpen ∷ cause_if (nat_le 64 n) (Full 2) ∷ if_refused (J.inspected text) ∷ if_vacuous (J.inspected text) ∷ []) (Opened 1))
+    ∙ ap (λ n. tried (cause_if (is_some (project_named tables caller name)) AlreadyOpen ∷ cause_if (nat_le 64 n) (Full 2) ∷ if_refused (J.inspected text) ∷ if_vacuous (J.inspected text) ∷ []) opening)
     (count_part (λ p. is_same p.owner caller) (λ p. is_member p caller) tables.projects
     (All-weaken IsProject (λ p. is_same p.owner caller ≡ true → is_member p caller ≡ true) (owned_seen caller) tables.projects formed.each))
 seen_of J tables caller (AddMember owner project member) formed = seen_on J tables caller (AddMember owner project member) owner project formed
@@ -201,22 +202,22 @@ seen_answer J tables caller query formed =
 
 -- what the act changes, by what its caller sees
 
-member_found : (J : Meaning) (caller : List ℕ) (act : Act) (found : Option Project) (r : Reply) → outcome_on J caller act found ≡ Done r
+member_found : (J : Meaning) (caller : List ℕ) (act : Act) (found : Option Project) (r : Effect) → outcome_on J caller act found ≡ Done r
     → IfSome found (λ p. (is_member p caller ≡ true) × (is_member (project_after caller act p) caller ≡ true))
 member_found J caller act None r e = tt
 member_found J caller act (Some p) r e =
     let member = not_false (is_member p caller) (cause_none (not (is_member p caller)) NotFound
-    (tried_none (cause_if (not (is_member p caller)) NotFound) (row_causes caller act p ++ judge_causes J act p) (reply_to act p) r e).0) in
+    (tried_none (cause_if (not (is_member p caller)) NotFound) (row_causes caller act p ++ judge_causes J act p) (effect_on act p) r e).0) in
     (member, member_stays caller act p member)
 
-seen_changed : (J : Meaning) (tables : Tables) (caller : List ℕ) (act : Act) (r : Reply) → outcome_on J caller act (project_named tables (owner_of caller act) (name_of act)) ≡ Done r
+seen_changed : (J : Meaning) (tables : Tables) (caller : List ℕ) (act : Act) (r : Effect) → outcome_on J caller act (project_named tables (owner_of caller act) (name_of act)) ≡ Done r
     → filter (λ p. is_member p caller) (changed (is_named (owner_of caller act) (name_of act)) (project_after caller act) tables.projects)
     ≡ changed (is_named (owner_of caller act) (name_of act)) (project_after caller act) (filter (λ p. is_member p caller) tables.projects)
 seen_changed J tables caller act r e =
     changed_part (is_named (owner_of caller act) (name_of act)) (λ p. is_member p caller) (project_after caller act) tables.projects
     (member_found J caller act (project_named tables (owner_of caller act) (name_of act)) r e)
 
-seen_projects : (J : Meaning) (tables : Tables) (caller : List ℕ) (act : Act) (r : Reply) → outcome_of J tables caller act ≡ Done r
+seen_projects : (J : Meaning) (tables : Tables) (caller : List ℕ) (act : Act) (r : Effect) → outcome_of J tables caller act ≡ Done r
     → filter (λ p. is_member p caller) (projects_after caller act tables.projects) ≡ projects_after caller act (filter (λ p. is_member p caller) tables.projects)
 seen_projects J tables caller (OpenProject name text) r e =
     filter_push (λ p. is_member p caller) tables.projects (opened caller name text) (ap (λ b. b || false) (same_label caller))
@@ -230,7 +231,7 @@ seen_acts : (J : Meaning) (tables new : Tables) (caller id : List ℕ) (act : Ac
     → Acts tables caller id act o new reply → Acts (seen_by caller tables) caller id act o (seen_by caller new) reply
 seen_acts J tables new caller id act reply (NotDone cause) e step = (ap (seen_by caller) step.0, step.1)
 seen_acts J tables new caller id act reply (Done done) e step =
-    let change : Change = record { caller = caller; id = id; act = act; reply = done } in
+    let change : Change = record { caller = caller; id = id; act = act; reply = done.reply; against = done.against } in
     let split = outcome_step (nat_le 100000 (reply_count tables caller)) (outcome_of J tables caller act) done e in
     let ps = seen_projects J tables caller act done split.1 in
     let ks = filter_push (λ (k : Change). is_same k.caller caller) tables.replies change (same_label caller) in

@@ -1,62 +1,82 @@
--- The base of a project keeps what its root does.
-use Rattle.std.proofs.Common.{◌≡◌, ◌==◌, inl, inr, ◌||◌, ℕ, Bool, true, false, cond, List, [], ◌∷◌, map, refl}
-use Rattle.std.specs.List.{AllByRecursion, list_any}
-use borrow.Author.Tests.{eq-eqb}
+-- Each version of a chain keeps what its root does.
+use Rattle.std.proofs.Common.{◌≡◌, ◌==◌, ◌≤◌, ◌<◌, ◌+◌, ℕ, zero, suc, Bool, true, false, List, [], ◌∷◌, length, find, Option, Some, None, IfSome, IsSomeAnd, arith, refl, subst}
+use Rattle.std.specs.Option.{option_map}
+use Rattle.std.specs.List.{AllByRecursion}
+use borrow.Author.Tests.{eqb-true, eqb-false}
 use Rattle.vmv_keeper.specs.declared.project.Project.{Project}
 use Rattle.vmv_keeper.specs.declared.project.Version.{Version}
 use Rattle.vmv_keeper.specs.Judging.{HasVerdict}
-use Rattle.vmv_keeper.specs.Formed.{IsProject, IsLater, AreLater, BeginOpened}
-use Rattle.vmv_keeper.specs.Tables.{Tables}
-use Rattle.vmv_desk_rules.specs.Causes.{Meaning, last_text, base_text}
-use Rattle.vmv_desk_rules.specs.Well.{Well, IsReviewed, AreAccepted, Parses}
-use Rattle.vmv_desk_rules.specs.Chain.{is_root, from_root, first_text, root_text, KeepsChains}
+use Rattle.vmv_keeper.specs.Formed.{IsProject}
+use Rattle.vmv_keeper.specs.Tables.{Tables, is_version, root_number}
+use Rattle.vmv_keeper.proofs.FormedReads.{IfSome-find}
+use Rattle.vmv_keeper.proofs.ListChanges.{All-weaken}
+use Rattle.vmv_desk_rules.specs.Causes.{Meaning, root_text}
+use Rattle.vmv_desk_rules.specs.Well.{Well, IsReviewed, IsAccepted, Parses}
+use Rattle.vmv_desk_rules.specs.Chain.{KeepsChain, KeepsChains}
+use Rattle.vmv_desk_rules.proofs.RootLemmas.{IsBehind, all_behind, all_straight, all_both, all_chain, begun_root, chain_numbers, numbers_below}
 
-or_true : (a b : Bool) → b ≡ true → (a || b) ≡ false → ⊥
-or_true true b e h = cc
-or_true false b e h = cc
-
-neither : (a b : Bool) → (a || b) ≡ false → (a ≡ false) × (b ≡ false)
-neither true b e = absurd (cc e)
-neither false b e = (refl, e)
-
-later_rows : (vs : List Version) → AllByRecursion IsLater (map (λ (v : Version). v.row) vs) → AllByRecursion (λ w. IsLater w.row) vs
-later_rows [] h = tt
-later_rows (v ∷ vs) h = (h.0, later_rows vs h.1)
-
--- a version that is no root was accepted
-accepted_kind : (v : Version) → IsLater v.row → is_root v ≡ false → v.row.kind ≡ 2
-accepted_kind v (inl two) e = two
-accepted_kind v (inr three) e = let is : (v.row.kind == 3) ≡ true = eq-eqb v.row.kind 3 three in absurd (or_true (v.row.kind == 1) (v.row.kind == 3) is e)
+-- a number that isn't below another, and isn't that one, is above it
+above_of : (a b : ℕ) → a ≤ b → (a ≡ b → ⊥) → a < b
+above_of a b le differ = omega (arith, le, differ)
 
 module _ (J : Meaning) (Keeps : List ℕ → List ℕ → Type 0)
     (same : (text : List ℕ) → Parses J text → Keeps text text)
     (chained : (a b c : List ℕ) → Keeps a b → Keeps b c → Keeps a c)
     (sound : (a b : List ℕ) → HasVerdict 1 (J.compared a b) → Keeps a b) where
-  -- versions behind one, none of them a root
-  straight : (v : Version) (rest : List Version) → AreAccepted J (v ∷ rest) → AllByRecursion (λ w. Parses J w.text) (v ∷ rest)
-      → AllByRecursion (λ w. IsLater w.row) rest → list_any is_root rest ≡ false → Keeps v.text (last_text (v ∷ rest))
-  straight v [] accepted texts later none = same v.text texts.0
-  straight v (w ∷ rest) accepted texts later none =
-      let both = neither (is_root w) (list_any is_root rest) none in
-      chained v.text w.text (last_text (w ∷ rest)) (sound v.text w.text (accepted.0 (accepted_kind w later.0 both.0)))
-      (straight w rest accepted.1 texts.1 later.1 both.1)
+  -- a version from the root on, below a number, keeps what the root does
+  abbrev IsKept : ℕ → List ℕ → ℕ → Version → Type 0
+  IsKept root text high v = root ≤ v.row.number → v.row.number < high → Keeps text v.text
 
-  from_root_keeps : (v : Version) (rest : List Version) (b : Bool) → list_any is_root rest ≡ b → AreAccepted J (v ∷ rest) → AllByRecursion (λ w. Parses J w.text) (v ∷ rest)
-      → AllByRecursion (λ w. IsLater w.row) rest → Keeps (first_text (cond b (from_root rest) (v ∷ rest))) (last_text (v ∷ rest))
-  from_root_keeps v rest false e accepted texts later = straight v rest accepted texts later e
-  from_root_keeps v [] true e accepted texts later = absurd (cc e)
-  from_root_keeps v (w ∷ rest) true e accepted texts later =
-      from_root_keeps w rest (list_any is_root rest) refl accepted.1 texts.1 later.1
+  -- the version that another was judged against, and that one
+  over_found : (root high n : ℕ) (text then : List ℕ) (found : Option Version) → IfSome found (λ w. IsKept root text high w × (is_version n w ≡ true)) → root ≤ n → n < high
+      → IsSomeAnd (option_map (λ (w : Version). w.text) found) (λ t. HasVerdict 1 (J.compared t then)) → Keeps text then
+  over_found root high n text then None kept low less judged = absurd judged
+  over_found root high n text then (Some w) kept low less judged =
+      let at = eqb-true w.row.number n kept.1 in
+      chained text w.text then (kept.0 (omega (arith, at, low)) (omega (arith, at, less))) (sound w.text then judged)
 
-  versions_keep : (vs : List Version) → BeginOpened (map (λ (v : Version). v.row) vs) → AreLater (map (λ (v : Version). v.row) vs) → AreAccepted J vs → AllByRecursion (λ w. Parses J w.text) vs
-      → Keeps (first_text (from_root vs)) (last_text vs)
-  versions_keep [] opened later accepted texts = absurd opened
-  versions_keep (v ∷ rest) opened later accepted texts = from_root_keeps v rest (list_any is_root rest) refl accepted texts (later_rows rest later)
+  one_more : (root high : ℕ) (p : Project) (v : Version) (b : Bool) → (root == v.row.number) ≡ b → AllByRecursion (IsKept root (root_text p) high) p.versions
+      → IsBehind root (root_text p) v → Parses J v.text → IsAccepted J p v → root ≤ v.row.number → v.row.number < suc high → Keeps (root_text p) v.text
+  one_more root high p v true is kept behind parses accepted low less =
+      let text = behind.0 (eqb-true root v.row.number is) in
+      let P : List ℕ → Type 0 = λ t. Keeps t v.text in
+      subst P text (same v.text parses)
+  one_more root high p v false is kept behind parses accepted low less =
+      let differ = eqb-false root v.row.number is in
+      let above : root < v.row.number = above_of root v.row.number low differ in
+      let judged = behind.1 above in
+      over_found root high v.row.against (root_text p) v.text (find (is_version v.row.against) p.versions)
+      (IfSome-find (IsKept root (root_text p) high) (is_version v.row.against) p.versions kept) judged.1 (omega (arith, judged.2, less)) (accepted judged.0)
 
-  projects_keep : (ps : List Project) → AllByRecursion IsProject ps → AllByRecursion (IsReviewed J) ps → AllByRecursion (λ p. Keeps (root_text p) (base_text p)) ps
+  kept_below : (root high : ℕ) (p : Project) → AllByRecursion (λ v. IsBehind root (root_text p) v × (Parses J v.text × IsAccepted J p v)) p.versions
+      → AllByRecursion (IsKept root (root_text p) high) p.versions
+  kept_below root zero p all =
+      All-weaken (λ v. IsBehind root (root_text p) v × (Parses J v.text × IsAccepted J p v)) (IsKept root (root_text p) zero) (λ v h low less. absurd (omega (arith, less))) p.versions all
+  kept_below root (suc high) p all =
+      let kept = kept_below root high p all in
+      All-weaken (λ v. IsBehind root (root_text p) v × (Parses J v.text × IsAccepted J p v)) (IsKept root (root_text p) (suc high))
+      (λ v h low less. one_more root high p v (root == v.row.number) refl kept h.0 h.1.0 h.1.1 low less) p.versions all
+
+  chain_kept : (p : Project) → IsProject p → IsReviewed J p → KeepsChain Keeps p
+  chain_kept p formed reviewed =
+      let root = root_number p in
+      let text = root_text p in
+      let any = begun_root p.versions formed.held.opened in
+      let behind = all_behind 1 0 p.versions formed.held.numbered any (all_straight p.versions formed.held.opened formed.later) reviewed.against in
+      let facts = all_both (IsBehind root text) (λ v. Parses J v.text × IsAccepted J p v) p.versions behind
+      (all_both (λ v. Parses J v.text) (IsAccepted J p) p.versions reviewed.texts reviewed.accepted) in
+      let high = 1 + length p.versions in
+      let kept = kept_below root high p facts in
+      let low = numbers_below high 1 p.versions (omega arith) formed.held.numbered in
+      let each = All-weaken (λ v. IsKept root text high v × (v.row.number < high)) (λ v. root ≤ v.row.number → Keeps text v.text) (λ v h at. h.0 at h.1) p.versions
+      (all_both (IsKept root text high) (λ v. v.row.number < high) p.versions kept low) in
+      let from = chain_numbers 1 0 p.versions formed.held.numbered any in
+      All-weaken (λ v. (root ≤ v.row.number) × (root ≤ v.row.number → Keeps text v.text)) (λ v. Keeps text v.text) (λ v h. h.1 h.0) _
+      (all_both (λ v. root ≤ v.row.number) (λ v. root ≤ v.row.number → Keeps text v.text) _ from (all_chain (λ v. root ≤ v.row.number → Keeps text v.text) p.versions each))
+
+  projects_keep : (ps : List Project) → AllByRecursion IsProject ps → AllByRecursion (IsReviewed J) ps → AllByRecursion (KeepsChain Keeps) ps
   projects_keep [] formed reviewed = tt
-  projects_keep (p ∷ ps) formed reviewed =
-      (versions_keep p.versions formed.0.held.opened formed.0.later reviewed.0.accepted reviewed.0.texts, projects_keep ps formed.1 reviewed.1)
+  projects_keep (p ∷ ps) formed reviewed = (chain_kept p formed.0 reviewed.0, projects_keep ps formed.1 reviewed.1)
 
   pub chains_kept : (tables : Tables) → Well J tables → KeepsChains Keeps tables
   chains_kept tables well = projects_keep tables.projects well.formed.each well.reviewed

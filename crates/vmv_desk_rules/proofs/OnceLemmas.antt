@@ -9,15 +9,16 @@ use Rattle.vmv_keeper.specs.declared.act.Act.TheVariants.{OpenProject, AddMember
 use Rattle.vmv_keeper.specs.declared.act.Command.{Command}
 use Rattle.vmv_keeper.specs.declared.act.Command.TheVariants.{Change as ToChange, Ask}
 use Rattle.vmv_keeper.specs.declared.reply.Reply.{Reply}
-use Rattle.vmv_keeper.specs.declared.reply.Reply.TheVariants.{Opened, NotFound, NotAllowed, Full, NotCorrect, AlreadyOpen, IdReused}
+use Rattle.vmv_keeper.specs.declared.reply.Reply.TheVariants.{NotFound, NotAllowed, Full, NotCorrect, AlreadyOpen, IdReused}
 use Rattle.vmv_keeper.specs.declared.judge.Inspected.{Inspected}
 use Rattle.vmv_keeper.specs.declared.judge.Inspected.TheVariants.{Fine, Refused, Vacuous}
 use Rattle.vmv_keeper.specs.Formed.{IsDone}
 use Rattle.vmv_keeper.specs.Tables.{Tables, is_same, is_member, is_kept_under, kept_under, waiting_as, project_named, project_count, reply_count}
 use Rattle.vmv_keeper.specs.Changes.{waiting_text, reply_to}
+use Rattle.vmv_desk_rules.specs.declared.outcome.Effect.{Effect}
 use Rattle.vmv_desk_rules.specs.declared.outcome.Outcome.{Outcome}
 use Rattle.vmv_desk_rules.specs.declared.outcome.Outcome.TheVariants.{Done, NotDone}
-use Rattle.vmv_desk_rules.specs.Causes.{Meaning, cause_if, tried, if_refused, if_vacuous, verdict_of, base_text, row_causes, judge_causes, outcome_on, outcome_of, outcome}
+use Rattle.vmv_desk_rules.specs.Causes.{Meaning, cause_if, tried, if_refused, if_vacuous, verdict_of, effect_on, opening, root_text, row_causes, judge_causes, outcome_on, outcome_of, outcome}
 use Rattle.vmv_desk_rules.specs.Step.{Step, Changes, Acts}
 use Rattle.vmv_desk_rules.specs.Replies.{may_refuse, Belongs}
 use Rattle.vmv_desk_rules.specs.Runs.{Turn, Runs}
@@ -30,7 +31,7 @@ cause_belongs : (act : Act) (b : Bool) (r : Reply) → IsTrue (may_refuse act r)
 cause_belongs act true r h = h
 cause_belongs act false r h = tt
 
-tried_belongs : (act : Act) (causes : List (Option Reply)) (done : Reply) → AllByRecursion (May act) causes → IsDone act done → Belongs act (tried causes done)
+tried_belongs : (act : Act) (causes : List (Option Reply)) (done : Effect) → AllByRecursion (May act) causes → IsDone act done.reply → Belongs act (tried causes done)
 tried_belongs act [] done all h = h
 tried_belongs act (None ∷ causes) done all h = tried_belongs act causes done all.1 h
 tried_belongs act (Some cause ∷ causes) done all h = all.0
@@ -84,7 +85,7 @@ judged_belong J (AddMember owner project member) p = tt
 judged_belong J (Submit owner project text) p = (submitting_refused owner project text (J.inspected text), tt)
 judged_belong J (Withdraw owner project s) p = tt
 judged_belong J (Accept owner project s) p =
-    let said = J.compared (base_text p) (waiting_text s p) in
+    let said = J.compared (root_text p) (waiting_text s p) in
     (cause_belongs (Accept owner project s) (not (verdict_of said == 1)) (NotCorrect (verdict_of said)) refl, (accepting_vacuous owner project s (J.inspected (waiting_text s p)), tt))
 judged_belong J (Waive owner project s) p = (waiving_vacuous owner project s (J.inspected (waiting_text s p)), tt)
 
@@ -112,7 +113,7 @@ reply_done (Waive owner project s) p = (_, refl)
 on_belongs : (J : Meaning) (caller : List ℕ) (act : Act) (found : Option Project) → IsOn act → Belongs act (outcome_on J caller act found)
 on_belongs J caller act None on = not_found_belongs act on
 on_belongs J caller act (Some p) on =
-    tried_belongs act (cause_if (not (is_member p caller)) NotFound ∷ (row_causes caller act p ++ judge_causes J act p)) (reply_to act p)
+    tried_belongs act (cause_if (not (is_member p caller)) NotFound ∷ (row_causes caller act p ++ judge_causes J act p)) (effect_on act p)
     (cause_belongs act (not (is_member p caller)) NotFound (not_found_belongs act on), all_both act (row_causes caller act p) (judge_causes J act p) (rows_belong caller act p) (judged_belong J act p))
     (reply_done act p)
 
@@ -121,7 +122,7 @@ of_belongs J tables caller (OpenProject name text) =
     let act : Act = OpenProject name text in
     let both = opening_refused name text (J.inspected text) in
     tried_belongs act (cause_if (is_some (project_named tables caller name)) AlreadyOpen ∷ cause_if (nat_le 64 (project_count tables caller)) (Full 2)
-    ∷ if_refused (J.inspected text) ∷ if_vacuous (J.inspected text) ∷ []) (Opened 1)
+    ∷ if_refused (J.inspected text) ∷ if_vacuous (J.inspected text) ∷ []) opening
     (cause_belongs act (is_some (project_named tables caller name)) AlreadyOpen refl, (cause_belongs act (nat_le 64 (project_count tables caller)) (Full 2) refl, (both.0, (both.1, tt)))) (1, refl)
 of_belongs J tables caller (AddMember owner project member) = on_belongs J caller (AddMember owner project member) (project_named tables owner project) tt
 of_belongs J tables caller (Submit owner project text) = on_belongs J caller (Submit owner project text) (project_named tables owner project) tt
@@ -188,7 +189,7 @@ acts_keep : (tables new : Tables) (caller id : List ℕ) (act : Act) (o : Outcom
 acts_keep tables new caller id act (NotDone cause) reply other other_id k step e = ap (λ t. kept_under t other other_id) step.0 ∙ e
 acts_keep tables new caller id act (Done done) reply other other_id k step e =
     ap (λ t. kept_under t other other_id) step.0
-    ∙ find_old (is_kept_under other other_id) tables.replies (record { caller = caller; id = id; act = act; reply = done }) k e
+    ∙ find_old (is_kept_under other other_id) tables.replies (record { caller = caller; id = id; act = act; reply = done.reply; against = done.against }) k e
 
 changes_keep : (J : Meaning) (tables new : Tables) (caller id : List ℕ) (act : Act) (found : Option Change) (reply : Reply) (other other_id : List ℕ) (k : Change)
     → Changes J tables caller id act found new reply → kept_under tables other other_id ≡ Some k → kept_under new other other_id ≡ Some k
@@ -228,7 +229,7 @@ acts_kept : (tables new : Tables) (caller id : List ℕ) (act : Act) (o : Outcom
 acts_kept tables new caller id act (NotDone cause) reply absent belongs step done =
     absurd (done_is_none act reply done (let P : Reply → Type 0 = λ r. IsTrue (may_refuse act r) in subst P (sym step.1) belongs))
 acts_kept tables new caller id act (Done r) reply absent belongs step done =
-    let change : Change = record { caller = caller; id = id; act = act; reply = r } in (
+    let change : Change = record { caller = caller; id = id; act = act; reply = r.reply; against = r.against } in (
       change,
       ap (λ t. kept_under t caller id) step.0
           ∙ find_new (is_kept_under caller id) tables.replies change absent (both_true (is_same caller caller) (is_same id id) (same_label caller) (same_label id)),

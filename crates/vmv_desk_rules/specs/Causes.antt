@@ -1,5 +1,6 @@
 -- The causes for which an act isn't done, in the order in which they are tried.
 use Rattle.std.specs.Prelude.{ℕ, ◌==◌, ◌&&◌, Bool, List, [], ◌∷◌, ◌++◌, length, not, nat_le, nat_lt, Option, Some, None, is_some, is_none, if◌then◌else◌}
+use Rattle.std.specs.List.{list_any}
 use Rattle.vmv_keeper.specs.declared.project.Project.{Project}
 use Rattle.vmv_keeper.specs.declared.project.Version.{Version}
 use Rattle.vmv_keeper.specs.declared.act.Act.{Act}
@@ -10,8 +11,9 @@ use Rattle.vmv_keeper.specs.declared.judge.Inspected.{Inspected}
 use Rattle.vmv_keeper.specs.declared.judge.Inspected.TheVariants.{Fine, Refused, Vacuous}
 use Rattle.vmv_keeper.specs.declared.judge.Compared.{Compared}
 use Rattle.vmv_keeper.specs.declared.judge.Compared.TheVariants.{Judged, Unreadable}
-use Rattle.vmv_keeper.specs.Tables.{Tables, is_same, is_member, waiting_as, project_named, project_count, reply_count}
-use Rattle.vmv_keeper.specs.Changes.{owner_of, name_of, waiting_text, reply_to}
+use Rattle.vmv_keeper.specs.Tables.{Tables, is_same, is_member, is_root, waiting_as, project_named, project_count, reply_count}
+use Rattle.vmv_keeper.specs.Changes.{owner_of, name_of, waiting_text, reply_to, against_of}
+use Rattle.vmv_desk_rules.specs.declared.outcome.Effect.{Effect}
 use Rattle.vmv_desk_rules.specs.declared.outcome.Outcome.{Outcome}
 use Rattle.vmv_desk_rules.specs.declared.outcome.Outcome.TheVariants.{Done, NotDone}
 
@@ -28,10 +30,18 @@ abbrev pub cause_if : Bool → Reply → Option Reply
 cause_if comes reply = if comes then Some reply else None
 
 -- an act isn't done for the first cause that comes, and is done where none comes
-abbrev pub tried : List (Option Reply) → Reply → Outcome
-tried [] reply = Done reply
-tried (None ∷ causes) reply = tried causes reply
-tried (Some cause ∷ causes) reply = NotDone cause
+abbrev pub tried : List (Option Reply) → Effect → Outcome
+tried [] effect = Done effect
+tried (None ∷ causes) effect = tried causes effect
+tried (Some cause ∷ causes) effect = NotDone cause
+
+-- what an act leaves that is done on a project
+abbrev pub effect_on : Act → Project → Effect
+effect_on act p = record { reply = reply_to act p; against = against_of act p }
+
+-- what the opening of a project leaves
+abbrev pub opening : Effect
+opening = record { reply = Opened 1; against = 0 }
 
 abbrev pub if_refused : Inspected → Option Reply
 if_refused Fine = None
@@ -60,6 +70,23 @@ last_text (version ∷ next ∷ rest) = last_text (next ∷ rest)
 abbrev pub base_text : Project → List ℕ
 base_text p = last_text p.versions
 
+-- the versions from the latest root on: the latest that was opened or waived
+abbrev pub from_root : List Version → List Version
+from_root [] = []
+from_root (version ∷ rest) = if list_any (λ later. is_root later.row) rest then from_root rest else version ∷ rest
+
+-- the chain of a project: its versions from its latest root on, up to its base
+abbrev pub chain : Project → List Version
+chain p = from_root p.versions
+
+abbrev pub first_text : List Version → List ℕ
+first_text [] = []
+first_text (version ∷ rest) = version.text
+
+-- the text of the root of a project's chain
+abbrev pub root_text : Project → List ℕ
+root_text p = first_text (chain p)
+
 -- the causes against an act that the project's rows show
 abbrev pub row_causes : List ℕ → Act → Project → List (Option Reply)
 row_causes caller (OpenProject name text) p = []
@@ -82,19 +109,19 @@ judge_causes J (AddMember owner project member) p = []
 judge_causes J (Submit owner project text) p = if_refused (J.inspected text) ∷ []
 judge_causes J (Withdraw owner project submission) p = []
 judge_causes J (Accept owner project submission) p =
-    let text = waiting_text submission p in if_not_correct (J.compared (base_text p) text) ∷ if_vacuous (J.inspected text) ∷ []
+    let text = waiting_text submission p in if_not_correct (J.compared (root_text p) text) ∷ if_vacuous (J.inspected text) ∷ []
 judge_causes J (Waive owner project submission) p = if_vacuous (J.inspected (waiting_text submission p)) ∷ []
 
 -- what comes of an act on the project, should there be one: who isn't a member is told of none
 abbrev pub outcome_on : Meaning → List ℕ → Act → Option Project → Outcome
 outcome_on J caller act None = NotDone NotFound
 outcome_on J caller act (Some p) =
-    tried (cause_if (not (is_member p caller)) NotFound ∷ (row_causes caller act p ++ judge_causes J act p)) (reply_to act p)
+    tried (cause_if (not (is_member p caller)) NotFound ∷ (row_causes caller act p ++ judge_causes J act p)) (effect_on act p)
 
 abbrev pub outcome_of : Meaning → Tables → List ℕ → Act → Outcome
 outcome_of J tables caller (OpenProject name text) =
     tried (cause_if (is_some (project_named tables caller name)) AlreadyOpen ∷ cause_if (nat_le 64 (project_count tables caller)) (Full 2)
-    ∷ if_refused (J.inspected text) ∷ if_vacuous (J.inspected text) ∷ []) (Opened 1)
+    ∷ if_refused (J.inspected text) ∷ if_vacuous (J.inspected text) ∷ []) opening
 outcome_of J tables caller act = outcome_on J caller act (project_named tables (owner_of caller act) (name_of act))
 
 -- what comes of an act, where the caller has room for its reply

@@ -5,3 +5,4 @@ pub mod Well
 pub mod Chain
 pub mod Runs
 pub mod Keeping
+pub mod Migrating

@@ -68,11 +68,11 @@ may_refuse (Waive owner project submission) reply = refuses_waiving reply
 
 -- what comes of an act has a reply of the act
 abbrev pub Belongs : Act → Outcome → Type 0
-Belongs act (Done reply) = IsDone act reply
+Belongs act (Done effect) = IsDone act effect.reply
 Belongs act (NotDone reply) = IsTrue (may_refuse act reply)
 
 abbrev pub is_report : Reply → Bool
-is_report (Report verdict json) = true
+is_report (Report verdict json against) = true
 is_report NotFound = true
 is_report _ = false
 

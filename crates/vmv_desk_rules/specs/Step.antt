@@ -11,21 +11,21 @@ use Rattle.vmv_keeper.specs.declared.reply.Reply.{Reply}
 use Rattle.vmv_keeper.specs.declared.reply.Reply.TheVariants.{Report, Base, History, Pending, NotFound, IdReused, StoreFault, Memory}
 use Rattle.vmv_keeper.specs.declared.judge.Compared.{Compared}
 use Rattle.vmv_keeper.specs.declared.judge.Compared.TheVariants.{Judged, Unreadable}
-use Rattle.vmv_keeper.specs.Tables.{Tables, is_member, waiting_as, project_named, kept_under}
+use Rattle.vmv_keeper.specs.Tables.{Tables, is_member, root_number, waiting_as, project_named, kept_under}
 use Rattle.vmv_keeper.specs.Changes.{after, waiting_text}
 use Rattle.vmv_desk_rules.specs.declared.outcome.Outcome.{Outcome}
 use Rattle.vmv_desk_rules.specs.declared.outcome.Outcome.TheVariants.{Done, NotDone}
-pub use Rattle.vmv_desk_rules.specs.Causes.{Meaning, base_text, outcome}
+pub use Rattle.vmv_desk_rules.specs.Causes.{Meaning, base_text, root_text, outcome}
 
--- the report on a submission, which is empty where a text doesn't parse
-abbrev pub report_of : Compared → Reply
-report_of (Judged verdict json) = Report verdict json
-report_of (Unreadable which) = Report 0 (codes "{}")
+-- the report on a submission against the version of this number, which is empty where a text doesn't parse
+abbrev pub report_of : ℕ → Compared → Reply
+report_of against (Judged verdict json) = Report verdict json against
+report_of against (Unreadable which) = Report 0 (codes "{}") against
 
 -- what a member is told of a project
 abbrev pub told_of : Meaning → Query → Project → Reply
 told_of J (ReportOf owner project submission) p =
-    if is_some (waiting_as submission p) then report_of (J.compared (base_text p) (waiting_text submission p)) else NotFound
+    if is_some (waiting_as submission p) then report_of (root_number p) (J.compared (root_text p) (waiting_text submission p)) else NotFound
 told_of J (BaseOf owner project) p = Base (length p.versions) (base_text p)
 told_of J (HistoryOf owner project) p = History (map (λ version. version.row) p.versions)
 told_of J (PendingOf owner project) p = Pending (map (λ waiting. waiting.row) p.pending)
@@ -57,7 +57,7 @@ IsRepeated kept act reply = ((kept.act ≡ act) × (reply ≡ kept.reply)) ⊎ (
 -- an act that is done changes the rows, and its reply is kept
 abbrev pub Acts : Tables → List ℕ → List ℕ → Act → Outcome → Tables → Reply → Type 0
 Acts tables caller id act (Done done) new reply =
-    (new ≡ after (record { caller = caller; id = id; act = act; reply = done }) tables) × (reply ≡ done)
+    (new ≡ after (record { caller = caller; id = id; act = act; reply = done.reply; against = done.against }) tables) × (reply ≡ done.reply)
 Acts tables caller id act (NotDone cause) new reply = (new ≡ tables) × (reply ≡ cause)
 
 abbrev pub Changes : Meaning → Tables → List ℕ → List ℕ → Act → Option Change → Tables → Reply → Type 0

@@ -1,6 +1,7 @@
 ghost use Rattle.std.specs.Prelude.{◌≡◌, ℕ, List};
 ghost use Rattle.vmv_keeper.specs.Formed.{IsDone};
-ghost use Rattle.vmv_keeper.specs.Tables.{Tables};
+ghost use Rattle.std.specs.List.{AllByRecursion};
+ghost use Rattle.vmv_keeper.specs.Tables.{Tables, no_rows};
 ghost use Rattle.vmv_keeper.specs.declared.act.Act.{Act};
 ghost use Rattle.vmv_keeper.specs.declared.reply.Reply.{Reply};
 ghost use Rattle.vmv_desk_rules.specs.Causes.{Meaning, says};
@@ -9,6 +10,7 @@ ghost use Rattle.vmv_desk_rules.specs.Well.{Well};
 ghost use Rattle.vmv_desk_rules.specs.Chain.{KeepsChains};
 ghost use Rattle.vmv_desk_rules.specs.Keeping.{ReadsUtf8, IsKeptAs};
 ghost use Rattle.vmv_desk_rules.specs.Runs.{Runs};
+ghost use Rattle.vmv_desk_rules.specs.Migrating.{WasWell, IsMigrated};
 
 use vmv_keeper::{Command, Judge};
 
@@ -17,7 +19,8 @@ pub fn steps_keep_rows_well()
     ensures { (J : Meaning) (tables new : Tables) (command : Command) (reply : Reply) → ReadsUtf8 J → Well J tables → Step J tables command new reply → Well J new }
 {}
 
-/// A law, with nothing to do: in well rows each project's base keeps what its latest root does.
+/// A law, with nothing to do: in well rows each version of a project's chain, its base among them, keeps what the
+/// root of the chain does.
 pub fn well_rows_keep_chains<J: Judge>(_judge: &J)
     ensures { (tables : Tables) → Well (says (J.inspected _judge.now) (J.compared _judge.now)) tables → KeepsChains (J.keeps _judge.now) tables }
 {}
@@ -35,4 +38,24 @@ pub fn done_acts_are_kept()
     ensures { (J : Meaning) (before behind now : Tables) (caller id : List ℕ) (act : Act) (reply : Reply) (commands : List Command) (replies : List Reply)
         → Step J before (Command.Change caller id act) behind reply → IsDone act reply → Runs J behind commands now replies
         → IsKeptAs now caller id act reply }
+{}
+
+/// A law, with nothing to do: no rows are well, whatever the judge.
+pub fn no_rows_are_well()
+    ensures { (J : Meaning) → Well J no_rows }
+{}
+
+/// A law, with nothing to do: histories that begin without rows need no premise. After any commands, repeats and
+/// faults among them, the rows are well, and each version of a project's chain keeps what its root does.
+pub fn histories_need_no_premise<J: Judge>(_judge: &J)
+    ensures well { (new : Tables) (commands : List Command) (replies : List Reply)
+        → Runs (says (J.inspected _judge.now) (J.compared _judge.now)) no_rows commands new replies → Well (says (J.inspected _judge.now) (J.compared _judge.now)) new }
+    ensures chains { (new : Tables) (commands : List Command) (replies : List Reply)
+        → Runs (says (J.inspected _judge.now) (J.compared _judge.now)) no_rows commands new replies → KeepsChains (J.keeps _judge.now) new }
+{}
+
+/// A law, with nothing to do: rows that were well while each accepted version was judged against the one before it
+/// are well once `migrate` has given what their versions were judged against.
+pub fn migrated_rows_are_well()
+    ensures { (J : Meaning) (tables : Tables) → WasWell J tables → AllByRecursion IsMigrated tables.projects → Well J tables }
 {}

@@ -12,9 +12,9 @@ use Rattle.vmv_keeper.specs.declared.change.Change.{Change}
 use Rattle.vmv_keeper.specs.declared.act.Act.{Act}
 use Rattle.vmv_keeper.specs.declared.act.Act.TheVariants.{OpenProject, AddMember, Submit, Withdraw, Accept, Waive}
 use Rattle.vmv_keeper.specs.declared.reply.Reply.{Reply}
-use Rattle.vmv_keeper.specs.Tables.{Tables, is_same, is_named, is_member, is_submission, is_kept_under, waiting_as, project_count, reply_count, project_named, kept_under}
+use Rattle.vmv_keeper.specs.Tables.{Tables, is_same, is_named, is_member, is_submission, is_kept_under, root_number, waiting_as, project_count, reply_count, project_named, kept_under}
 use Rattle.vmv_keeper.specs.Formed.{AreFormed, IsProject, IsDone}
-use Rattle.vmv_keeper.specs.Changes.{Fits, ActFits, Allows, after, projects_after, project_after, changed, opened, with_member, with_submission, without_submission, with_version, waiting_text, owner_of, name_of, reply_to}
+use Rattle.vmv_keeper.specs.Changes.{Fits, ActFits, Allows, after, projects_after, project_after, changed, opened, with_member, with_submission, without_submission, with_version, waiting_text, owner_of, name_of, reply_to, against_of}
 use Rattle.vmv_keeper.proofs.FormedReads.{IfSome-find, and-true_both}
 use Rattle.vmv_keeper.proofs.ListChanges.{All-push, All-weaken, All-changed, All-without, length_map-without, length_map-push, length_map-same, count_by-changed, count_by-push_few, count_by-not_found, count_by-not_any, Rises-without, Rises-push, AreNumbered-push, BeginOpened-push, AreLater-push, FirstIs-push}
 
@@ -119,11 +119,11 @@ text_of : (found : Option Waiting) (number : ℕ) → IfSome found (λ w. IsUtf8
 text_of None number h some = absurd (cc some)
 text_of (Some w) number h some = h.0
 
-moves : (kind : ℕ) (caller : List ℕ) (number : ℕ) (p : Project) → IsProject p → (kind ≡ 2) ⊎ (kind ≡ 3) → IsSome (waiting_as number p)
-    → length p.versions < 1024 → IsProject (with_version kind caller number p)
-moves kind caller number p good later some room =
+moves : (kind against : ℕ) (caller : List ℕ) (number : ℕ) (p : Project) → IsProject p → (kind ≡ 2) ⊎ (kind ≡ 3) → IsSome (waiting_as number p)
+    → length p.versions < 1024 → IsProject (with_version kind against caller number p)
+moves kind against caller number p good later some room =
     let row : Version → VersionRow = λ v. v.row in
-    let one : Version = record { row = record { number = length p.versions + 1; kind = kind; submission = number; by = caller }; text = waiting_text number p } in
+    let one : Version = record { row = record { number = length p.versions + 1; kind = kind; submission = number; by = caller; against = against }; text = waiting_text number p } in
     let longer = length_map-push row p.versions one in
     let same = length_map-same row p.versions in
     let rest = withdraws number p good in
@@ -153,34 +153,34 @@ IsProject-after caller (OpenProject name text) p good allows = absurd allows
 IsProject-after caller (AddMember owner project member) p good allows = member_choice member p (is_member p member) refl good allows.1
 IsProject-after caller (Submit owner project text) p good allows = submits caller text p good allows.0 allows.1 allows.2
 IsProject-after caller (Withdraw owner project submission) p good allows = withdraws submission p good
-IsProject-after caller (Accept owner project submission) p good allows = moves 2 caller submission p good (inl refl) allows.0 allows.1
-IsProject-after caller (Waive owner project submission) p good allows = moves 3 caller submission p good (inr refl) allows.1 allows.2
+IsProject-after caller (Accept owner project submission) p good allows = moves 2 (root_number p) caller submission p good (inl refl) allows.0 allows.1
+IsProject-after caller (Waive owner project submission) p good allows = moves 3 0 caller submission p good (inr refl) allows.1 allows.2
 
 -- an act that fits what is found
-abbrev FitsFound : List ℕ → Act → Reply → Option Project → Type 0
-FitsFound caller act reply found = IsSomeAnd found (λ p. IsTrue (is_member p caller) × Allows caller act p × (reply ≡ reply_to act p))
+abbrev FitsFound : List ℕ → Act → Reply → ℕ → Option Project → Type 0
+FitsFound caller act reply against found = IsSomeAnd found (λ p. IsTrue (is_member p caller) × Allows caller act p × (reply ≡ reply_to act p) × (against ≡ against_of act p))
 
-after_found : (caller : List ℕ) (act : Act) (reply : Reply) (found : Option Project) (test : Project → Bool)
-    → IfSome found (λ p. IsProject p × (test p ≡ true)) → FitsFound caller act reply found → IfSome found (λ p. IsProject (project_after caller act p))
-after_found caller act reply None test good fits = tt
-after_found caller act reply (Some p) test good fits = IsProject-after caller act p good.0 fits.1
+after_found : (caller : List ℕ) (act : Act) (reply : Reply) (against : ℕ) (found : Option Project) (test : Project → Bool)
+    → IfSome found (λ p. IsProject p × (test p ≡ true)) → FitsFound caller act reply against found → IfSome found (λ p. IsProject (project_after caller act p))
+after_found caller act reply against None test good fits = tt
+after_found caller act reply against (Some p) test good fits = IsProject-after caller act p good.0 fits.1
 
-each_changed : (tables : Tables) (caller : List ℕ) (act : Act) (reply : Reply) → AllByRecursion IsProject tables.projects
-    → FitsFound caller act reply (project_named tables (owner_of caller act) (name_of act))
+each_changed : (tables : Tables) (caller : List ℕ) (act : Act) (reply : Reply) (against : ℕ) → AllByRecursion IsProject tables.projects
+    → FitsFound caller act reply against (project_named tables (owner_of caller act) (name_of act))
     → AllByRecursion IsProject (changed (is_named (owner_of caller act) (name_of act)) (project_after caller act) tables.projects)
-each_changed tables caller act reply all fits =
+each_changed tables caller act reply against all fits =
     let test = is_named (owner_of caller act) (name_of act) in
     All-changed IsProject test (project_after caller act) tables.projects all
-    (after_found caller act reply (find test tables.projects) test (IfSome-find IsProject test tables.projects all) fits)
+    (after_found caller act reply against (find test tables.projects) test (IfSome-find IsProject test tables.projects all) fits)
 
-each_after : (tables : Tables) (caller : List ℕ) (act : Act) (reply : Reply) → AllByRecursion IsProject tables.projects
-    → ActFits tables.projects caller act reply → AllByRecursion IsProject (projects_after caller act tables.projects)
-each_after tables caller (OpenProject name text) reply all fits = All-push IsProject tables.projects (opened caller name text) all (IsProject-opened caller name text fits.2)
-each_after tables caller (AddMember owner project member) reply all fits = each_changed tables caller (AddMember owner project member) reply all fits
-each_after tables caller (Submit owner project text) reply all fits = each_changed tables caller (Submit owner project text) reply all fits
-each_after tables caller (Withdraw owner project submission) reply all fits = each_changed tables caller (Withdraw owner project submission) reply all fits
-each_after tables caller (Accept owner project submission) reply all fits = each_changed tables caller (Accept owner project submission) reply all fits
-each_after tables caller (Waive owner project submission) reply all fits = each_changed tables caller (Waive owner project submission) reply all fits
+each_after : (tables : Tables) (caller : List ℕ) (act : Act) (reply : Reply) (against : ℕ) → AllByRecursion IsProject tables.projects
+    → ActFits tables.projects caller act reply against → AllByRecursion IsProject (projects_after caller act tables.projects)
+each_after tables caller (OpenProject name text) reply against all fits = All-push IsProject tables.projects (opened caller name text) all (IsProject-opened caller name text fits.2)
+each_after tables caller (AddMember owner project member) reply against all fits = each_changed tables caller (AddMember owner project member) reply against all fits
+each_after tables caller (Submit owner project text) reply against all fits = each_changed tables caller (Submit owner project text) reply against all fits
+each_after tables caller (Withdraw owner project submission) reply against all fits = each_changed tables caller (Withdraw owner project submission) reply against all fits
+each_after tables caller (Accept owner project submission) reply against all fits = each_changed tables caller (Accept owner project submission) reply against all fits
+each_after tables caller (Waive owner project submission) reply against all fits = each_changed tables caller (Waive owner project submission) reply against all fits
 
 -- an act changes neither a project's owner nor its name
 
@@ -216,42 +216,42 @@ count_changed test here caller act ps =
     (λ p. ap (λ o. test o (project_after caller act p).name) (owner_after caller act p) ∙ ap (λ n. test p.owner n) (name_after caller act p)) ps
 
 -- such a count, where a project that is opened may be counted
-count_after : (test : List ℕ → List ℕ → Bool) (k : ℕ) (tables : Tables) (caller : List ℕ) (act : Act) (reply : Reply)
+count_after : (test : List ℕ → List ℕ → Bool) (k : ℕ) (tables : Tables) (caller : List ℕ) (act : Act) (reply : Reply) (against : ℕ)
     → count_by (λ p. test p.owner p.name) tables.projects ≤ k
     → ((name : List ℕ) → project_named tables caller name ≡ None → project_count tables caller < 64 → test caller name ≡ true → count_by (λ p. test p.owner p.name) tables.projects < k)
-    → ActFits tables.projects caller act reply
+    → ActFits tables.projects caller act reply against
     → count_by (λ p. test p.owner p.name) (projects_after caller act tables.projects) ≤ k
-count_after test k tables caller (OpenProject name text) reply few room fits =
+count_after test k tables caller (OpenProject name text) reply against few room fits =
     count_by-push_few (λ p. test p.owner p.name) tables.projects (opened caller name text) k few (room name fits.0 fits.1)
-count_after test k tables caller (AddMember owner project member) reply few room fits =
+count_after test k tables caller (AddMember owner project member) reply against few room fits =
     let e = count_changed test (is_named owner project) caller (AddMember owner project member) tables.projects in let P : ℕ → Type 0 = λ n. n ≤ k in subst P (sym e) few
-count_after test k tables caller (Submit owner project text) reply few room fits =
+count_after test k tables caller (Submit owner project text) reply against few room fits =
     let e = count_changed test (is_named owner project) caller (Submit owner project text) tables.projects in let P : ℕ → Type 0 = λ n. n ≤ k in subst P (sym e) few
-count_after test k tables caller (Withdraw owner project submission) reply few room fits =
+count_after test k tables caller (Withdraw owner project submission) reply against few room fits =
     let e = count_changed test (is_named owner project) caller (Withdraw owner project submission) tables.projects in let P : ℕ → Type 0 = λ n. n ≤ k in subst P (sym e) few
-count_after test k tables caller (Accept owner project submission) reply few room fits =
+count_after test k tables caller (Accept owner project submission) reply against few room fits =
     let e = count_changed test (is_named owner project) caller (Accept owner project submission) tables.projects in let P : ℕ → Type 0 = λ n. n ≤ k in subst P (sym e) few
-count_after test k tables caller (Waive owner project submission) reply few room fits =
+count_after test k tables caller (Waive owner project submission) reply against few room fits =
     let e = count_changed test (is_named owner project) caller (Waive owner project submission) tables.projects in let P : ℕ → Type 0 = λ n. n ≤ k in subst P (sym e) few
 
 -- the reply of an act that fits is one of an act that was done
 
-done_found : (caller : List ℕ) (act : Act) (reply : Reply) (found : Option Project) → ((p : Project) → IsDone act (reply_to act p)) → FitsFound caller act reply found → IsDone act reply
-done_found caller act reply None each fits = absurd fits
-done_found caller act reply (Some p) each fits = let P : Reply → Type 0 = λ r. IsDone act r in subst P (sym fits.2) (each p)
+done_found : (caller : List ℕ) (act : Act) (reply : Reply) (against : ℕ) (found : Option Project) → ((p : Project) → IsDone act (reply_to act p)) → FitsFound caller act reply against found → IsDone act reply
+done_found caller act reply against None each fits = absurd fits
+done_found caller act reply against (Some p) each fits = let P : Reply → Type 0 = λ r. IsDone act r in subst P (sym fits.2) (each p)
 
-done_act : (tables : Tables) (caller : List ℕ) (act : Act) (reply : Reply) → ActFits tables.projects caller act reply → IsDone act reply
-done_act tables caller (OpenProject name text) reply fits = (1, fits.3)
-done_act tables caller (AddMember owner project member) reply fits =
-    done_found caller (AddMember owner project member) reply (project_named tables owner project) (λ p. (length (with_member member p).members, refl)) fits
-done_act tables caller (Submit owner project text) reply fits =
-    done_found caller (Submit owner project text) reply (project_named tables owner project) (λ p. (p.next, refl)) fits
-done_act tables caller (Withdraw owner project submission) reply fits =
-    done_found caller (Withdraw owner project submission) reply (project_named tables owner project) (λ p. (submission, refl)) fits
-done_act tables caller (Accept owner project submission) reply fits =
-    done_found caller (Accept owner project submission) reply (project_named tables owner project) (λ p. (length p.versions + 1, refl)) fits
-done_act tables caller (Waive owner project submission) reply fits =
-    done_found caller (Waive owner project submission) reply (project_named tables owner project) (λ p. (length p.versions + 1, refl)) fits
+done_act : (tables : Tables) (caller : List ℕ) (act : Act) (reply : Reply) (against : ℕ) → ActFits tables.projects caller act reply against → IsDone act reply
+done_act tables caller (OpenProject name text) reply against fits = (1, fits.3)
+done_act tables caller (AddMember owner project member) reply against fits =
+    done_found caller (AddMember owner project member) reply against (project_named tables owner project) (λ p. (length (with_member member p).members, refl)) fits
+done_act tables caller (Submit owner project text) reply against fits =
+    done_found caller (Submit owner project text) reply against (project_named tables owner project) (λ p. (p.next, refl)) fits
+done_act tables caller (Withdraw owner project submission) reply against fits =
+    done_found caller (Withdraw owner project submission) reply against (project_named tables owner project) (λ p. (submission, refl)) fits
+done_act tables caller (Accept owner project submission) reply against fits =
+    done_found caller (Accept owner project submission) reply against (project_named tables owner project) (λ p. (length p.versions + 1, refl)) fits
+done_act tables caller (Waive owner project submission) reply against fits =
+    done_found caller (Waive owner project submission) reply against (project_named tables owner project) (λ p. (length p.versions + 1, refl)) fits
 
 -- two labels that are the same
 
@@ -286,12 +286,12 @@ room_of_caller tables change caller room same = let P : List ℕ → Type 0 = λ
 pub AreFormed-after : (tables : Tables) (change : Change) → AreFormed tables → Fits tables change → AreFormed (after change tables)
 AreFormed-after tables change formed fits =
     record {
-      each = each_after tables change.caller change.act change.reply formed.each fits.act_fits;
-      distinct = λ owner name. count_after (λ o n. is_named owner name (opened o n [])) 1 tables change.caller change.act change.reply (formed.distinct owner name)
+      each = each_after tables change.caller change.act change.reply change.against formed.each fits.act_fits;
+      distinct = λ owner name. count_after (λ o n. is_named owner name (opened o n [])) 1 tables change.caller change.act change.reply change.against (formed.distinct owner name)
           (λ new none room same. none_named tables change.caller new owner name none same) fits.act_fits;
-      few_projects = λ owner. count_after (λ o n. is_same o owner) 64 tables change.caller change.act change.reply (formed.few_projects owner)
+      few_projects = λ owner. count_after (λ o n. is_same o owner) 64 tables change.caller change.act change.reply change.against (formed.few_projects owner)
           (λ new none room same. room_of_owner tables change.caller owner room same) fits.act_fits;
-      done = All-push (λ kept. IsDone kept.act kept.reply) tables.replies change formed.done (done_act tables change.caller change.act change.reply fits.act_fits);
+      done = All-push (λ kept. IsDone kept.act kept.reply) tables.replies change formed.done (done_act tables change.caller change.act change.reply change.against fits.act_fits);
       one_each = λ caller id. count_by-push_few (is_kept_under caller id) tables.replies change 1 (formed.one_each caller id) (none_kept tables change caller id fits.new);
       few_replies = λ caller. count_by-push_few (λ kept. is_same kept.caller caller) tables.replies change 100000 (formed.few_replies caller) (room_of_caller tables change caller fits.room);
     }

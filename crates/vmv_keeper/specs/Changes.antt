@@ -9,12 +9,12 @@ use Rattle.vmv_keeper.specs.declared.reply.Reply.{Reply}
 use Rattle.vmv_keeper.specs.declared.reply.Reply.TheVariants.{Opened, Members, Submitted, Withdrawn, Accepted, Waived}
 use Rattle.vmv_keeper.specs.declared.act.Act.{Act}
 use Rattle.vmv_keeper.specs.declared.act.Act.TheVariants.{OpenProject, AddMember, Submit, Withdraw, Accept, Waive}
-use Rattle.vmv_keeper.specs.Tables.{Tables, is_named, project_in, owned_count, is_member, is_submission, waiting_as, kept_under, reply_count}
+use Rattle.vmv_keeper.specs.Tables.{Tables, is_named, project_in, owned_count, is_member, is_submission, root_number, waiting_as, kept_under, reply_count}
 
 -- a project as it is opened
 abbrev pub opened : List ℕ → List ℕ → List ℕ → Project
 opened caller name text =
-    let row : VersionRow = record { number = 1; kind = 1; submission = 0; by = caller } in
+    let row : VersionRow = record { number = 1; kind = 1; submission = 0; by = caller; against = 0 } in
     record { owner = caller; name = name; members = caller ∷ []; versions = record { row = row; text = text } ∷ []; next = 1; pending = [] }
 
 -- one more member, where he isn't one
@@ -41,9 +41,9 @@ abbrev pub waiting_text : ℕ → Project → List ℕ
 waiting_text number project = unwrap_or (option_map (λ waiting. waiting.text) (waiting_as number project)) []
 
 -- one more version, which was the submission of this number
-abbrev pub with_version : ℕ → List ℕ → ℕ → Project → Project
-with_version kind caller number project =
-    let row : VersionRow = record { number = length project.versions + 1; kind = kind; submission = number; by = caller } in
+abbrev pub with_version : ℕ → ℕ → List ℕ → ℕ → Project → Project
+with_version kind against caller number project =
+    let row : VersionRow = record { number = length project.versions + 1; kind = kind; submission = number; by = caller; against = against } in
     record project { versions = project.versions ++ record { row = row; text = waiting_text number project } ∷ []; pending = without (is_submission number) project.pending }
 
 -- the owner of the project that an act is about, and the project's name
@@ -69,8 +69,8 @@ project_after caller (OpenProject name text) p = p
 project_after caller (AddMember owner project member) p = with_member member p
 project_after caller (Submit owner project text) p = with_submission caller text p
 project_after caller (Withdraw owner project submission) p = without_submission submission p
-project_after caller (Accept owner project submission) p = with_version 2 caller submission p
-project_after caller (Waive owner project submission) p = with_version 3 caller submission p
+project_after caller (Accept owner project submission) p = with_version 2 (root_number p) caller submission p
+project_after caller (Waive owner project submission) p = with_version 3 0 caller submission p
 
 -- a list of which the first element that passes the test is changed
 abbrev pub changed : {X : Type 0} → (X → Bool) → (X → X) → List X → List X
@@ -104,16 +104,25 @@ reply_to (Withdraw owner project submission) p = Withdrawn submission
 reply_to (Accept owner project submission) p = Accepted (length p.versions + 1)
 reply_to (Waive owner project submission) p = Waived (length p.versions + 1)
 
--- an act fits some projects, and has this reply
-abbrev pub ActFits : List Project → List ℕ → Act → Reply → Type 0
-ActFits projects caller (OpenProject name text) reply =
-    (project_in projects caller name ≡ None) × (owned_count projects caller < 64) × IsUtf8 text × (reply ≡ Opened 1)
-ActFits projects caller act reply =
+-- the number of the version that an act's submission is judged against: the root's for an accepted one, 0 for any other act
+abbrev pub against_of : Act → Project → ℕ
+against_of (OpenProject name text) p = 0
+against_of (AddMember owner project member) p = 0
+against_of (Submit owner project text) p = 0
+against_of (Withdraw owner project submission) p = 0
+against_of (Accept owner project submission) p = root_number p
+against_of (Waive owner project submission) p = 0
+
+-- an act fits some projects, has this reply, and was judged against the version of this number
+abbrev pub ActFits : List Project → List ℕ → Act → Reply → ℕ → Type 0
+ActFits projects caller (OpenProject name text) reply against =
+    (project_in projects caller name ≡ None) × (owned_count projects caller < 64) × IsUtf8 text × (reply ≡ Opened 1) × (against ≡ 0)
+ActFits projects caller act reply against =
     IsSomeAnd (project_in projects (owner_of caller act) (name_of act))
-    (λ p. IsTrue (is_member p caller) × Allows caller act p × (reply ≡ reply_to act p))
+    (λ p. IsTrue (is_member p caller) × Allows caller act p × (reply ≡ reply_to act p) × (against ≡ against_of act p))
 
 -- a change fits: its id is new, the caller has room for its reply, and its act fits
 pub record Fits (tables : Tables) (change : Change) : Type 0 where
   pub new : kept_under tables change.caller change.id ≡ None
   pub room : reply_count tables change.caller < 100000
-  pub act_fits : ActFits tables.projects change.caller change.act change.reply
+  pub act_fits : ActFits tables.projects change.caller change.act change.reply change.against

@@ -1,5 +1,5 @@
 -- The rows that a store holds, and what is found in them.
-use Rattle.std.specs.Prelude.{ℕ, ◌==◌, ◌&&◌, nat_eq, Bool, List, [], map, find, count_by, Option, option_and_then}
+use Rattle.std.specs.Prelude.{ℕ, ◌==◌, ◌&&◌, ◌||◌, nat_eq, Bool, List, [], ◌∷◌, map, find, count_by, Option, option_and_then, if◌then◌else◌}
 use Rattle.std.specs.Option.{option_map}
 use Rattle.std.specs.List.{list_any}
 use Rattle.std.specs.Cmp.Lexicographic.{pointwise}
@@ -9,6 +9,7 @@ use Rattle.vmv_keeper.specs.declared.project.Waiting.{Waiting}
 use Rattle.vmv_keeper.specs.declared.project.Bench.{Bench}
 use Rattle.vmv_keeper.specs.declared.project.Held.{Held}
 use Rattle.vmv_keeper.specs.declared.project.Submitted.{Submitted}
+use Rattle.vmv_keeper.specs.declared.reply.VersionRow.{VersionRow}
 use Rattle.vmv_keeper.specs.declared.change.Change.{Change}
 use Rattle.vmv_keeper.specs.declared.change.Kept.{Kept}
 
@@ -54,6 +55,19 @@ version_of number project = find (is_version number) project.versions
 -- the text of the version of this number
 abbrev pub version_text : ℕ → Project → Option (List ℕ)
 version_text number project = option_map (λ version. version.text) (version_of number project)
+
+-- a version that was opened or waived
+abbrev pub is_root : VersionRow → Bool
+is_root row = row.kind == 1 || row.kind == 3
+
+-- the number of the latest root, which was this one before some versions
+abbrev pub root_after : ℕ → List VersionRow → ℕ
+root_after root [] = root
+root_after root (row ∷ rest) = root_after (if is_root row then row.number else root) rest
+
+-- the number of a project's latest root
+abbrev pub root_number : Project → ℕ
+root_number project = root_after 0 (map (λ version. version.row) project.versions)
 
 abbrev pub is_submission : ℕ → Waiting → Bool
 is_submission number waiting = waiting.row.submission == number

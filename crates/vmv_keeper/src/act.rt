@@ -30,13 +30,13 @@ pub enum Act {
         project: Label,
         submission: u32,
     },
-    /// A submission that becomes the next version, held against the one before.
+    /// A submission that becomes the next version, judged against the latest one that was opened or waived.
     Accept {
         owner: Label,
         project: Label,
         submission: u32,
     },
-    /// A submission that becomes the next version, whatever the one before.
+    /// A submission that becomes the next version without being judged: the next ones are judged against it.
     Waive {
         owner: Label,
         project: Label,

@@ -5,13 +5,15 @@ use crate::label::Label;
 use crate::reply::Reply;
 use std::alloc::{AllocError, Global};
 
-/// An act under a caller's id, with the reply that is kept for it.
+/// An act under a caller's id, with the reply that is kept for it. An accepted submission was judged against
+/// the version of the number `against`, which is 0 for every other act.
 #[derive(Debug, Drop)]
 pub struct Change {
     pub caller: Label,
     pub id: Label,
     pub act: Act,
     pub reply: Reply,
+    pub against: u32,
 }
 
 /// An act that was done, and its reply.
@@ -31,6 +33,7 @@ impl Change {
             id: self.id,
             act: self.act.copy(alloc)?,
             reply: self.reply.copy(alloc)?,
+            against: self.against,
         })
     }
 }

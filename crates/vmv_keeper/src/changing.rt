@@ -1,6 +1,6 @@
 ghost use Rattle.std.specs.Prelude.{◌≡◌, ◌≤◌, ◌++◌, ◌∷◌, [], length, IfOk, OnOk, OnErr};
 ghost use Rattle.std.specs.List.{AllByRecursion, position};
-ghost use Rattle.vmv_keeper.specs.Tables.{is_member, is_named, is_submission};
+ghost use Rattle.vmv_keeper.specs.Tables.{is_member, is_named, is_submission, root_number};
 ghost use Rattle.vmv_keeper.specs.Formed.{IsProject};
 ghost use Rattle.vmv_keeper.specs.Changes.{opened, with_member, with_submission, without_submission, waiting_text, with_version, changed, project_after, projects_after, after};
 
@@ -32,6 +32,7 @@ fn opened(alloc: Global, caller: &Label, name: &Label, text: &Text) -> Result<Pr
         kind: 1,
         submission: 0,
         by: *caller,
+        against: 0,
     };
     let first = Version {
         row,
@@ -106,15 +107,29 @@ fn waiting_text(alloc: Global, project: &Project, number: u32) -> Result<Text, A
     }
 }
 
+// The number of the project's latest root.
+pub(crate) fn root_number(project: &Project) -> u32
+    ensures { result ≡ root_number project.now }
+{
+    let mut root = 0;
+    for version in project.versions.as_slice() {
+        if version.row.is_root() {
+            root = version.row.number;
+        }
+    }
+    root
+}
+
 fn add_version(
     alloc: Global,
     project: &mut Project,
     kind: u8,
+    against: u32,
     caller: &Label,
     number: u32,
 ) -> Result<(), AllocError>
     requires { length project.old.versions ≤ 1024 }
-    ensures done { OnOk result (project.new ≡ with_version kind caller.now number project.old) }
+    ensures done { OnOk result (project.new ≡ with_version kind against caller.now number project.old) }
     ensures refused { OnErr result (project.new ≡ project.old) }
 {
     let row = VersionRow {
@@ -122,6 +137,7 @@ fn add_version(
         kind,
         submission: number,
         by: *caller,
+        against,
     };
     let text = waiting_text(alloc, project, number)?;
     project.versions.push(Version { row, text })?;
@@ -143,8 +159,11 @@ fn act_on(alloc: Global, project: &mut Project, caller: &Label, act: &Act) -> Re
             remove_submission(project, *submission);
             Ok(())
         }
-        Act::Accept { submission, .. } => add_version(alloc, project, 2, caller, *submission),
-        Act::Waive { submission, .. } => add_version(alloc, project, 3, caller, *submission),
+        Act::Accept { submission, .. } => {
+            let against = root_number(project);
+            add_version(alloc, project, 2, against, caller, *submission)
+        }
+        Act::Waive { submission, .. } => add_version(alloc, project, 3, 0, caller, *submission),
     }
 }
 

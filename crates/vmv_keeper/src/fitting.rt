@@ -2,11 +2,11 @@ ghost use Rattle.std.specs.Prelude.{◌≡◌, ◌↔◌, ◌⊎◌, ◌<◌, �
 ghost use Rattle.std.specs.List.{AllByRecursion};
 ghost use Rattle.vmv_keeper.specs.Tables.{is_member, project_in, owned_count, waiting_as};
 ghost use Rattle.vmv_keeper.specs.Formed.{IsProject, AreFormed};
-ghost use Rattle.vmv_keeper.specs.Changes.{with_member, Allows, ActFits, Fits, reply_to};
+ghost use Rattle.vmv_keeper.specs.Changes.{with_member, Allows, ActFits, Fits, reply_to, against_of};
 
 use crate::act::Act;
 use crate::change::Change;
-use crate::changing::is_member;
+use crate::changing::{is_member, root_number};
 use crate::label::Label;
 use crate::project::Project;
 use crate::reply::Reply;
@@ -81,6 +81,16 @@ fn has_reply(project: &Project, act: &Act, reply: &Reply) -> bool
     }
 }
 
+// The number of the version that the act's submission is judged against.
+fn against_of(project: &Project, act: &Act) -> u32
+    ensures { result ≡ against_of act.now project.now }
+{
+    match act {
+        Act::Accept { .. } => root_number(project),
+        _ => 0,
+    }
+}
+
 fn has_place(project: &Project, member: &Label) -> bool
     ensures { IsTrue result ↔ (IsTrue (is_member project.now member.now) ⊎ (length project.now.members < 64)) }
 {
@@ -122,11 +132,14 @@ fn allows(project: &Project, caller: &Label, act: &Act) -> bool
     }
 }
 
-fn fits_project(project: &Project, caller: &Label, act: &Act, reply: &Reply) -> bool
+fn fits_project(project: &Project, caller: &Label, act: &Act, reply: &Reply, against: u32) -> bool
     requires { IsProject project.now }
-    ensures { IsTrue result ↔ (IsTrue (is_member project.now caller.now) × Allows caller.now act.now project.now × (reply.now ≡ reply_to act.now project.now)) }
+    ensures { IsTrue result ↔ (IsTrue (is_member project.now caller.now) × Allows caller.now act.now project.now × (reply.now ≡ reply_to act.now project.now) × (against ≡ against_of act.now project.now)) }
 {
-    is_member(project, caller) && allows(project, caller, act) && has_reply(project, act, reply)
+    is_member(project, caller)
+        && allows(project, caller, act)
+        && has_reply(project, act, reply)
+        && against == against_of(project, act)
 }
 
 fn owned_count(projects: &[Project], owner: &Label) -> usize
@@ -153,31 +166,33 @@ fn fits_named(
     caller: &Label,
     act: &Act,
     reply: &Reply,
+    against: u32,
 ) -> bool
     requires { AllByRecursion IsProject projects.now }
     ensures { IsTrue result
         ↔ IsSomeAnd (project_in projects.now owner.now name.now)
-        (λ p. IsTrue (is_member p caller.now) × Allows caller.now act.now p × (reply.now ≡ reply_to act.now p)) }
+        (λ p. IsTrue (is_member p caller.now) × Allows caller.now act.now p × (reply.now ≡ reply_to act.now p) × (against ≡ against_of act.now p)) }
 {
     match project_in(projects, owner, name) {
-        Some(project) => fits_project(project, caller, act, reply),
+        Some(project) => fits_project(project, caller, act, reply, against),
         None => false,
     }
 }
 
-fn act_fits(projects: &[Project], caller: &Label, act: &Act, reply: &Reply) -> bool
+fn act_fits(projects: &[Project], caller: &Label, act: &Act, reply: &Reply, against: u32) -> bool
     requires { AllByRecursion IsProject projects.now }
-    ensures { IsTrue result ↔ ActFits projects.now caller.now act.now reply.now }
+    ensures { IsTrue result ↔ ActFits projects.now caller.now act.now reply.now against }
 {
     match act {
         Act::OpenProject { name, text } => may_open(projects, caller, name, text)
-            && is_opened(reply, 1),
+            && is_opened(reply, 1)
+            && against == 0,
         Act::AddMember { owner, project, .. }
         | Act::Submit { owner, project, .. }
         | Act::Withdraw { owner, project, .. }
         | Act::Accept { owner, project, .. }
         | Act::Waive { owner, project, .. } => fits_named(
-            projects, owner, project, caller, act, reply,
+            projects, owner, project, caller, act, reply, against,
         ),
     }
 }
@@ -189,5 +204,11 @@ pub(crate) fn fits(projects: &[Project], replies: &[Change], change: &Change) ->
 {
     change_under(replies, &change.caller, &change.id).is_none()
         && count_of(replies, &change.caller) < 100_000
-        && act_fits(projects, &change.caller, &change.act, &change.reply)
+        && act_fits(
+            projects,
+            &change.caller,
+            &change.act,
+            &change.reply,
+            change.against,
+        )
 }

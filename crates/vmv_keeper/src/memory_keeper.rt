@@ -36,7 +36,8 @@ impl MemoryKeeper {
     }
 
     /// Whether a change fits the rows: its id is new for its caller, who has room for one more reply, nothing
-    /// that the rows show forbids its act, its text is UTF-8, and its reply is the act's.
+    /// that the rows show forbids its act, its text is UTF-8, its reply is the act's, and the version that it
+    /// was judged against is the project's latest root for an accepted submission, and none for another act.
     pub fn fits(&self, change: &Change) -> bool
         ensures { IsTrue result ↔ Fits (rows self.now) change.now }
     {

@@ -1,7 +1,8 @@
--- The report is on the submission against the base.
-use Rattle.std.proofs.Common.{◌≡◌, length, false, rules}
+-- The report is on the submission against the root.
+use Rattle.std.proofs.Common.{◌≡◌, false, rules}
+use Rattle.vmv_keeper.specs.Tables.{root_after}
 use Rattle.vmv_desk.specs.AtHand.{is_queued}
-use Rattle.vmv_desk.proofs.TextsLemmas.{no_text}
+use Rattle.vmv_desk.proofs.TextsLemmas.{no_root}
 use Rattle.vmv_desk.proofs.AskedLemmas.{not_reported, report_found}
 use Rattle.vmv_desk.proofs.asking.report_on.Goals as goal
 
@@ -12,13 +13,13 @@ returns-then-not-holds-clause-told g c =
 
 pub returns-in_default-2-clause-told : goal.returns-in_default-2-clause-told
 returns-in_default-2-clause-told g c =
-    let many : c.len-version.result ≡ length c.args.held.now.versions = search rules in
-    no_text (g.K.Keeper.told c.args.keeper.now) (g.K.Keeper.told c.submission.new.self) c.args.owner.now c.args.project.now c.args.held.now c.len-version.result _
-    c.requires many c.submission.ensures.kept (search rules)
+    let at : c.root_of-against.result ≡ root_after 0 c.args.held.now.versions = search rules in
+    no_root (g.K.Keeper.told c.args.keeper.now) (g.K.Keeper.told c.submission.new.self) c.args.owner.now c.args.project.now c.args.held.now c.root_of-against.result _
+    c.requires at c.submission.ensures.kept (search rules)
 
 pub returns-clause-told : goal.returns-clause-told
 returns-clause-told g c =
-    let many : c.len-version.result ≡ length c.args.held.now.versions = search rules in
-    report_found (g.K.Keeper.told c.args.keeper.now) (g.K.Keeper.told c.submission.new.self) c.args.owner.now c.args.project.now c.args.held.now c.args.queue.now c.args.submission c.len-version.result
-    (g.J.Judge.compared c.args.judge.now) c.in-Some.submitted c.in-Some-2.base c.judged_report.result
-    c.requires many (search rules) c.submission.ensures.kept (search rules) c.judged_report.ensures.reply
+    let at : c.root_of-against.result ≡ root_after 0 c.args.held.now.versions = search rules in
+    report_found (g.K.Keeper.told c.args.keeper.now) (g.K.Keeper.told c.submission.new.self) c.args.owner.now c.args.project.now c.args.held.now c.args.queue.now c.args.submission c.root_of-against.result
+    (g.J.Judge.compared c.args.judge.now) c.in-Some.submitted c.in-Some-2.root c.judged_report.result
+    c.requires at (search rules) c.submission.ensures.kept (search rules) c.judged_report.ensures.reply

@@ -23,5 +23,5 @@ pub returns-clause-told : goal.returns-clause-told
 returns-clause-told g c =
     let member : has_member c.args.held.now c.args.caller.now ≡ true = search rules in
     done_at (g.K.Keeper.told c.args.keeper.now) (owner_of c.args.caller.now c.args.act.now) (name_of c.args.act.now)
-    (says (g.J.Judge.inspected c.args.judge.now) (g.J.Judge.compared c.args.judge.now)) c.args.caller.now c.args.act.now c.args.held.now c.args.queue.now c.reply_to.result c.in_ok-reply.field-0
-    member (search rules) c.in_default-2.is c.reply_to.ensures.reply (c.in_ok-reply.ensures.told c.args.caller.now)
+    (says (g.J.Judge.inspected c.args.judge.now) (g.J.Judge.compared c.args.judge.now)) c.args.caller.now c.args.act.now c.args.held.now c.args.queue.now c.effect_on.result c.in_ok-reply.field-0
+    member (search rules) c.in_default-2.is c.effect_on.ensures.effect (c.in_ok-reply.ensures.told c.args.caller.now)
