@@ -1,5 +1,6 @@
 pub mod Products
 pub mod Filled
+pub mod Lines
 pub mod Places
 pub mod Turns
 pub mod Zeros
@@ -14,6 +15,7 @@ pub mod Guards
 pub mod Hulls
 pub mod Words
 pub mod Values
+pub mod Extending
 pub mod Reading
 pub mod PointStates
 pub mod Rounding

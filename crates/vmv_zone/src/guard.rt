@@ -16,7 +16,8 @@ impl Zone {
         ensures { IsGuarded self test result }
     {
         self.normalize();
-        self.guard_normed(test)
+        self.hold(test);
+        self
     }
 
     /// The state where the test holds, where the state before it is normal.
@@ -27,9 +28,19 @@ impl Zone {
         ensures { IsGuarded self.now test result }
     {
         let mut after = *self;
-        after.meet(test);
-        after.normalize_closed();
+        after.hold(test);
         after
+    }
+
+    /// Makes the test hold, in a normal state.
+    pub fn hold(&mut self, test: ZoneTest)
+        requires normal { IsNormal self.old }
+        requires left { IsOperand (vars_of self.old) test.left }
+        requires right { IsOperand (vars_of self.old) test.right }
+        ensures { IsGuarded self.old test self.new }
+    {
+        self.meet(test);
+        self.normalize_closed();
     }
 
     /// Adds what the test adds.
