@@ -7,6 +7,7 @@ pub mod Zeros
 pub mod States
 pub mod Settling
 pub mod Normed
+pub mod Joining
 pub mod Rows
 pub mod Closing
 pub mod Confining

@@ -1,5 +1,6 @@
 ghost use Rattle.std.specs.Prelude.{◌≡◌, ◌↔◌, ◌≤ℤ◌, pos, negsuc, IsTrue};
-ghost use Rattle.vmv_zone.specs.Zone.{vars_of, IsNormal};
+ghost use Rattle.vmv_zone.specs.declared.zone.Zone.{Zone};
+ghost use Rattle.vmv_zone.specs.Zone.{vars_of, IsNormal, NotBottom};
 ghost use Rattle.vmv_zone.specs.Operand.{IsOperand, IsZero, IsNonzero, dif};
 ghost use Rattle.vmv_zone.specs.Confine.{Confines, HasClosedBounds};
 ghost use Rattle.vmv_zone.specs.Step.{Tested, IsApart, IsGuarded};
@@ -41,6 +42,19 @@ impl Zone {
     {
         self.meet(test);
         self.normalize_closed();
+    }
+
+    /// Whether the test holds at some point of a normal state, as far as the state after the guard tells.
+    #[inline(never)]
+    pub fn allows(&self, test: ZoneTest) -> bool
+        requires normal { IsNormal self.now }
+        requires left { IsOperand (vars_of self.now) test.left }
+        requires right { IsOperand (vars_of self.now) test.right }
+        ensures { (g : Zone) × IsGuarded self.now test g × (IsTrue result ↔ NotBottom g) }
+    {
+        let mut after = *self;
+        after.hold(test);
+        !after.bottom
     }
 
     /// Adds what the test adds.

@@ -1,11 +1,11 @@
 use Rattle.std.proofs.Common.{arith, rules, FitsSigned, length, ◌≤◌}
 use Rattle.std.specs.Int.{w128}
 use Rattle.std.proofs.lemmas.Int.{to_z-of_z}
-use Rattle.vmv_zone.proofs.Filled.{filled_none, filled_more, filled_done}
-use Rattle.vmv_zone.proofs.args.arg_bounds.Goals as goal
+use Rattle.vmv_zone.proofs.Filled.{filled_zeros, filled_more, filled_done}
+use Rattle.vmv_zone.proofs.args.fill_bounds.Goals as goal
 
 pub loop-place-init : goal.loop-place-init
-loop-place-init c = filled_none _ _
+loop-place-init c = filled_zeros _ _ _ (search rules) c.requires.zeros
 
 pub loop-place-preserved : goal.loop-place-preserved
 loop-place-preserved c =

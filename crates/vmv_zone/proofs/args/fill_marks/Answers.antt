@@ -1,6 +1,6 @@
 use Rattle.std.proofs.Common.{arith, ◌<◌, ◌∙◌, length-set}
 use Rattle.vmv_zone.proofs.Arguments.{marked_more, marked_inside}
-use Rattle.vmv_zone.proofs.args.arg_marks.Goals as goal
+use Rattle.vmv_zone.proofs.args.fill_marks.Goals as goal
 
 pub loop-i-preserved : goal.loop-i-preserved
 loop-i-preserved c =

@@ -2,7 +2,7 @@ use Rattle.std.proofs.Common.{◌≡◌, ◌<◌, ◌≤◌, ◌↔◌, ℕ, len
 use Rattle.vmv_zone.specs.Bounds.{IsMarkedIn}
 use Rattle.vmv_zone.specs.Operand.{IsNonzero}
 use Rattle.vmv_zone.specs.Args.{argument_at}
-use Rattle.vmv_zone.proofs.args.arg_marks.Given as goal
+use Rattle.vmv_zone.proofs.args.fill_marks.Given as goal
 
 abbrev pub invariant-loop-i : goal.invariant-loop-i
 invariant-loop-i l = record {
