@@ -1,9 +1,9 @@
 -- A table of bounds, filled place by place.
-use Rattle.std.proofs.Common.{◌≡◌, ◌≢◌, ⊎_elim, ℕ, ◌+◌, ◌*◌, ◌/◌, ◌%◌, ◌<◌, ◌≤◌, ℤ, pos, List, get_or, set, length, length-set, replicate, arith, ◌∙◌, get_or-set_same, get_or-set_other}
+use Rattle.std.proofs.Common.{◌≡◌, ◌≢◌, ⊎_elim, ℕ, ◌+◌, ◌*◌, ◌/◌, ◌%◌, ◌<◌, ◌≤◌, ℤ, pos, List, get_or, set, length, length-set, replicate, arith, refl, ◌∙◌, get_or-set_same, get_or-set_other}
 use Rattle.std.proofs.lemmas.List.{length-replicate}
 use Rattle.std.proofs.lemmas.Bool.{cases_eq, cases_lt}
 use Rattle.std.proofs.lemmas.Int.{ints}
-use Rattle.vmv_zone.specs.Bounds.{IsInReach, AreInReach, bound_at, inner_bound, IsTable, top_bound, dropped_bound, freed_bound, moved, IsTableBy}
+use Rattle.vmv_zone.specs.Bounds.{IsInReach, AreInReach, AreZeroOutside, bound_at, inner_bound, IsTable, top_bound, dropped_bound, freed_bound, moved, IsTableBy}
 use Rattle.vmv_zone.proofs.Places.{reach_set}
 use Rattle.vmv_zone.proofs.Zeros.{zeros_reach, get_or-zeros}
 
@@ -120,4 +120,56 @@ filled_done Is vars bs place few all table = record {
       (λ (after : place ≤ 18 * i + j). table.rest (18 * i + j) after)
       (cases_lt (18 * i + j) place))
       out;
+}
+
+-- no place is filled yet where all bounds are 0
+pub filled_zeros : (Is : ℕ → ℕ → ℤ → Type 0) (vars : ℕ) (bs : List ℤ) → length bs ≡ 324 → ((k : ℕ) → get_or bs k (pos 0) ≡ pos 0) → FilledBy Is vars bs 0
+filled_zeros Is vars bs full zeros = record { full = full; reach = λ k. rw (zeros k) (record { low = omega (arith, ints); high = omega (arith, ints) }); filled = λ i j hj h. absurd (omega arith); blank = λ i j hj out h. absurd (omega arith); rest = λ k h. zeros k }
+
+-- the bounds at the places below this one have the property of their place and of what was there, and the others are as they were
+pub record RefilledBy (Is : ℤ → ℤ → Type 0) (vars : ℕ) (old new : List ℤ) (place : ℕ) : Type 0 where
+  pub full : length new ≡ 324
+  pub reach : AreInReach new
+  pub filled : (i j : ℕ) → j ≤ vars → 18 * i + j < place → Is (bound_at old i j) (bound_at new i j)
+  pub blank : (i j : ℕ) → j < 18 → vars < j → 18 * i + j < place → bound_at new i j ≡ pos 0
+  pub rest : (k : ℕ) → place ≤ k → get_or new k (pos 0) ≡ get_or old k (pos 0)
+
+pub refilled_none : (Is : ℤ → ℤ → Type 0) (vars : ℕ) (old : List ℤ) → length old ≡ 324 → AreInReach old → RefilledBy Is vars old old 0
+refilled_none Is vars old full reach = record { full = full; reach = reach; filled = λ i j hj h. absurd (omega arith); blank = λ i j hj out h. absurd (omega arith); rest = λ k h. refl }
+
+pub refilled_more : (Is : ℤ → ℤ → Type 0) (vars : ℕ) (old new : List ℤ) (place : ℕ) (b : ℤ) → vars ≤ 17 → place < 324 → RefilledBy Is vars old new place →
+    (place % 18 ≤ vars → Is (bound_at new (place / 18) (place % 18)) b) → (vars < place % 18 → b ≡ pos 0) → IsInReach b → RefilledBy Is vars old (set new place b) (place + 1)
+refilled_more Is vars old new place b few inside table is none here =
+    let within : place < length new = omega (arith, table.full) in
+    record {
+      full = length-set new place b ∙ table.full;
+      reach = reach_set new place b within table.reach here;
+      filled = λ i j hj h. ⊎_elim
+          (λ (same : 18 * i + j ≡ place).
+          let row : place / 18 ≡ i = omega arith in
+          let column : place % 18 ≡ j = omega arith in
+          let is' : Is (bound_at new i j) b = rw (row, column) at is (omega arith) in
+          let was : bound_at new i j ≡ bound_at old i j = table.rest (18 * i + j) (omega arith) in
+          let is'' : Is (bound_at old i j) b = rw was at is' in
+          let now : bound_at (set new place b) i j ≡ b = rw (same, get_or-set_same) refl in
+          rw now is'')
+          (λ (other : 18 * i + j ≢ place). rw get_or-set_other (table.filled i j hj (omega arith)))
+          (cases_eq (18 * i + j) place);
+      blank = λ i j hj out h. ⊎_elim
+          (λ (same : 18 * i + j ≡ place). rw (same, get_or-set_same) (none (omega arith)))
+          (λ (other : 18 * i + j ≢ place). rw get_or-set_other (table.blank i j hj out (omega arith)))
+          (cases_eq (18 * i + j) place);
+      rest = λ k h. let ne : k ≢ place = omega arith in rw get_or-set_other (table.rest k (omega arith));
+    }
+
+pub refilled_done : (Is : ℤ → ℤ → Type 0) (vars : ℕ) (old new : List ℤ) (place : ℕ) → vars ≤ 17 → place ≡ 18 * (vars + 1) → AreZeroOutside vars old → RefilledBy Is vars old new place →
+    IsTableBy (λ i j b. Is (bound_at old i j) b) vars new
+refilled_done Is vars old new place few all outside table = record {
+  full = table.full;
+  reach = table.reach;
+  at = λ i j hi hj. table.filled i j hj (omega arith);
+  outside = λ i j hi hj out. ⊎_elim
+      (λ (within : 18 * i + j < place). table.blank i j hj (⊎_elim (λ (past : vars < i). absurd (omega arith)) (λ (past : vars < j). past) out) within)
+      (λ (after : place ≤ 18 * i + j). table.rest (18 * i + j) after ∙ outside i j hi hj out)
+      (cases_lt (18 * i + j) place);
 }

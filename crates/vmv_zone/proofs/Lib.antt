@@ -1,11 +1,13 @@
 pub mod Products
 pub mod Filled
+pub mod Lines
 pub mod Places
 pub mod Turns
 pub mod Zeros
 pub mod States
 pub mod Settling
 pub mod Normed
+pub mod Joining
 pub mod Rows
 pub mod Closing
 pub mod Confining
@@ -14,6 +16,7 @@ pub mod Guards
 pub mod Hulls
 pub mod Words
 pub mod Values
+pub mod Extending
 pub mod Reading
 pub mod PointStates
 pub mod Rounding

@@ -1,12 +1,16 @@
 -- Steps from normal states, and from states by way of their norms.
-use Rattle.std.proofs.Common.{◌∙◌, ◌+◌, ℕ, arith, refl, subst}
+use Rattle.std.proofs.Common.{◌∙◌, ◌+◌, ℕ, List, arith, refl, subst}
 use Rattle.std.proofs.lemmas.Int.{ints}
 use Rattle.vmv_zone.specs.declared.zone.Zone.{Zone}
+use Rattle.vmv_cond.specs.declared.cond.Cond.{Cond}
+use Rattle.vmv_zone.specs.declared.operand.ZoneOperand.{ZoneOperand}
 use Rattle.vmv_zone.specs.declared.operand.ZoneTest.{ZoneTest}
 use Rattle.vmv_zone.specs.declared.operand.ZoneValue.{ZoneValue}
 use Rattle.vmv_zone.specs.declared.operand.ZoneOperand.TheVariants.{Var}
 use Rattle.vmv_zone.specs.Zone.{IsNormal, IsNormOf, IsGreatest}
 use Rattle.vmv_zone.specs.Step.{IsGuarded, IsAssigned, Tested, Given}
+use Rattle.vmv_zone.specs.Args.{IsArgsOf}
+use Rattle.vmv_zone.specs.Read.{IsRangeOf}
 use Rattle.vmv_zone.proofs.States.{below_trans}
 
 -- a normal state is its own norm
@@ -42,3 +46,16 @@ assigned_through z b r to value norm assigned = record {
   greatest = let F : ℕ → Type 0 = λ k. IsGreatest (k + 1) assigned.before (λ n. Given value assigned.before n (Var (k + 1))) assigned.fresh in subst F norm.vars assigned.greatest;
   drops = assigned.drops;
 }
+
+pub args_through : (z b r : Zone) (args : List ZoneOperand) → IsNormOf z b → IsArgsOf b args r → IsArgsOf z args r
+args_through z b r args norm passed = record {
+  before = passed.before;
+  norm = norm_through z b passed.before norm passed.norm;
+  vars = passed.vars;
+  bottom = passed.bottom;
+  bounds = passed.bounds;
+  marks = passed.marks;
+}
+
+pub range_through : (z b : Zone) (x : ZoneOperand) (c : Cond) → IsNormOf z b → IsRangeOf b x c → IsRangeOf z x c
+range_through z b x c norm range = record { before = range.before; norm = norm_through z b range.before norm range.norm; words = range.words }

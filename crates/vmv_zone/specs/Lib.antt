@@ -2,6 +2,7 @@ pub mod Four
 pub mod Rel
 pub mod Bounds
 pub mod Change
+pub mod Lines
 pub mod Zone
 pub mod Operand
 pub mod Ends

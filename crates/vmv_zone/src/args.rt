@@ -1,4 +1,4 @@
-ghost use Rattle.std.specs.Prelude.{◌≡◌, ◌≤◌, ◌<◌, ◌↔◌, ℕ, length, pos, FitsSigned};
+ghost use Rattle.std.specs.Prelude.{◌≡◌, ◌≤◌, ◌<◌, ◌↔◌, ℕ, length, pos, get_or, FitsSigned};
 ghost use Rattle.std.specs.Int.{w64};
 ghost use Rattle.vmv_zone.specs.Bounds.{IsInReach, IsTableBy, inner_bound, IsMarkedIn};
 ghost use Rattle.vmv_zone.specs.Zone.{vars_of, NotBottom, IsNormal};
@@ -19,34 +19,40 @@ impl Zone {
     {
         let mut before = *self;
         before.normalize();
-        let count = args.len() as u8;
-        if before.bottom {
-            return Zone::none(count);
+        let mut passed = Zone::none(0);
+        before.copy_args_to(args, &mut passed);
+        passed
+    }
+
+    /// Makes the other state that of the arguments of a call, where this one is normal.
+    pub fn copy_args_to(&self, args: &[ZoneOperand], into: &mut Zone)
+        requires normal { IsNormal self.now }
+        requires few { length args.now ≤ 16 }
+        requires operands { AreOperands (vars_of self.now) args.now }
+        ensures { IsArgsOf self.now args.now into.new }
+    {
+        into.empty(args.len() as u8);
+        if self.bottom {
+            return;
         }
-        let bounds = arg_bounds(&before, args);
-        let marks = arg_marks(&before, args);
-        Zone {
-            vars: count,
-            bottom: false,
-            bounds,
-            marks,
-        }
+        fill_bounds(&mut into.bounds, self, args);
+        fill_marks(&mut into.marks, self, args);
+        into.bottom = false;
     }
 }
 
-/// The bounds on the differences of the arguments.
-fn arg_bounds(before: &Zone, args: &[ZoneOperand]) -> [i128; CELLS]
+/// Fills in the bounds on the differences of the arguments.
+fn fill_bounds(bounds: &mut [i128; CELLS], before: &Zone, args: &[ZoneOperand])
+    requires zeros { (k : ℕ) → get_or bounds.old k (pos 0) ≡ pos 0 }
     requires few { length args.now ≤ 16 }
     requires normal { IsNormal before.now }
     requires not_bottom { NotBottom before.now }
     requires operands { AreOperands (vars_of before.now) args.now }
-    ensures { IsTableBy (λ i j b. IsArgBound before.now args.now i j b) (length args.now) result }
+    ensures { IsTableBy (λ i j b. IsArgBound before.now args.now i j b) (length args.now) bounds.new }
 {
-    let mut bounds = [0; CELLS];
     for place in 0..18 * (args.len() + 1) {
         bounds[place] = arg_bound(before, args, place / 18, place % 18);
     }
-    bounds
 }
 
 /// The bound on the difference of two arguments; 0 where `j` is past the last one.
@@ -73,18 +79,18 @@ fn argument(args: &[ZoneOperand], i: usize) -> ZoneOperand
     if i == 0 { ZERO } else { args[i - 1] }
 }
 
-/// The marks of the arguments that are nonzero.
-fn arg_marks(before: &Zone, args: &[ZoneOperand]) -> [bool; 18]
+/// Marks the arguments that are nonzero.
+fn fill_marks(marks: &mut [bool; 18], before: &Zone, args: &[ZoneOperand])
+    requires unmarked { (i : ℕ) → ¬ IsMarkedIn marks.old i }
     requires few { length args.now ≤ 16 }
     requires operands { AreOperands (vars_of before.now) args.now }
-    ensures marked { (i : ℕ) → 1 ≤ i → i ≤ length args.now → IsMarkedIn result i ↔ IsNonzero before.now (argument_at args.now i) }
-    ensures variables { (i : ℕ) → IsMarkedIn result i → (1 ≤ i) × (i ≤ length args.now) }
+    ensures full { length marks.new ≡ 18 }
+    ensures marked { (i : ℕ) → 1 ≤ i → i ≤ length args.now → IsMarkedIn marks.new i ↔ IsNonzero before.now (argument_at args.now i) }
+    ensures variables { (i : ℕ) → IsMarkedIn marks.new i → (1 ≤ i) × (i ≤ length args.now) }
 {
-    let mut marks = [false; 18];
     for i in 1..args.len() + 1 {
         marks[i] = before.nonzero(argument(args, i));
     }
-    marks
 }
 
 impl Zone {

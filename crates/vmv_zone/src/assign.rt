@@ -20,7 +20,8 @@ impl Zone {
         ensures { IsAssigned self to value result }
     {
         self.normalize();
-        self.assign_normed(to, value)
+        self.store(to, value);
+        self
     }
 
     /// The state after the variable `to` was given the value, where the state before it is normal.
@@ -32,40 +33,50 @@ impl Zone {
         requires value { IsOperandOf value (vars_of self.now) }
         ensures { IsAssigned self.now to value result }
     {
-        let fresh = ZoneOperand::Var(self.vars + 1);
         let mut after = *self;
-        after.extend();
-        after.give(self, fresh, value);
-        after.normalize_closed();
-        after.drop_to(to);
+        after.store(to, value);
         after
     }
 
-    /// Makes the fresh variable equal to the value.
-    fn give(&mut self, before: &Zone, fresh: ZoneOperand, value: ZoneValue)
+    /// Gives the variable `to` the value, in a normal state.
+    pub fn store(&mut self, to: u8, value: ZoneValue)
+        requires normal { IsNormal self.old }
+        requires few { vars_of self.old ≤ 16 }
+        requires variable { 1 ≤ to }
+        requires to { to ≤ vars_of self.old }
+        requires value { IsOperandOf value (vars_of self.old) }
+        ensures { IsAssigned self.old to value self.new }
+    {
+        self.extend();
+        let fresh = ZoneOperand::Var(self.vars);
+        self.give(fresh, value);
+        self.normalize_closed();
+        self.drop_to(to);
+    }
+
+    /// Makes the fresh variable, of which nothing is known, equal to the value.
+    fn give(&mut self, fresh: ZoneOperand, value: ZoneValue)
         requires fresh { IsOperand (vars_of self.old) fresh }
-        requires vars { vars_of self.old ≡ vars_of before.now + 1 }
-        requires normal { IsNormal before.now }
-        requires value { IsOperandOf value (vars_of before.now) }
+        requires normal { IsNormal self.old }
+        requires value { IsOperandOf value (vars_of self.old) }
         requires closed { HasClosedBounds self.old }
-        ensures { Confines (vars_of self.old) (λ n. Given value before.now n fresh) self.old self.new }
+        ensures { Confines (vars_of self.old) (λ n. Given value self.old n fresh) self.old self.new }
     {
         match value {
-            ZoneValue::Copy(operand) => self.copy_to(before, fresh, operand),
-            ZoneValue::Arith { op, left, right } => self.compute(before, fresh, op, left, right),
+            ZoneValue::Copy(operand) => self.copy_to(fresh, operand),
+            ZoneValue::Arith { op, left, right } => self.compute(fresh, op, left, right),
             ZoneValue::Within(cond) => self.hold_within(fresh, cond),
         }
     }
 
     /// Makes the fresh variable equal to the operand.
-    fn copy_to(&mut self, before: &Zone, fresh: ZoneOperand, operand: ZoneOperand)
+    fn copy_to(&mut self, fresh: ZoneOperand, operand: ZoneOperand)
         requires fresh { IsOperand (vars_of self.old) fresh }
-        requires vars { vars_of self.old ≡ vars_of before.now + 1 }
-        requires operand { IsOperand (vars_of before.now) operand }
+        requires operand { IsOperand (vars_of self.old) operand }
         requires closed { HasClosedBounds self.old }
-        ensures { Confines (vars_of self.old) (λ n. IsCopy before.now n fresh operand) self.old self.new }
+        ensures { Confines (vars_of self.old) (λ n. IsCopy self.old n fresh operand) self.old self.new }
     {
-        let marked = before.nonzero(operand);
+        let marked = self.nonzero(operand);
         self.span(fresh, operand, 0, 0);
         self.make_nonzero_where(fresh, marked);
     }

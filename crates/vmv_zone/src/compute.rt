@@ -1,4 +1,4 @@
-ghost use Rattle.std.specs.Prelude.{◌≡◌, ◌+◌, ◌≤◌, neg_ℤ};
+ghost use Rattle.std.specs.Prelude.{◌≡◌, ◌≤◌, neg_ℤ};
 ghost use Rattle.vmv_zone.specs.Zone.{vars_of, bound_of, IsNormal};
 ghost use Rattle.vmv_zone.specs.Operand.{IsOperand, low, up};
 ghost use Rattle.vmv_zone.specs.Confine.{Confines, HasClosedBounds};
@@ -12,26 +12,24 @@ impl Zone {
     /// Makes the fresh variable equal to what the operation gives.
     pub(crate) fn compute(
         &mut self,
-        before: &Zone,
         fresh: ZoneOperand,
         op: ZoneOp,
         left: ZoneOperand,
         right: ZoneOperand,
     )
         requires fresh { IsOperand (vars_of self.old) fresh }
-        requires vars { vars_of self.old ≡ vars_of before.now + 1 }
-        requires normal { IsNormal before.now }
-        requires left { IsOperand (vars_of before.now) left }
-        requires right { IsOperand (vars_of before.now) right }
+        requires normal { IsNormal self.old }
+        requires left { IsOperand (vars_of self.old) left }
+        requires right { IsOperand (vars_of self.old) right }
         requires closed { HasClosedBounds self.old }
-        ensures { Confines (vars_of self.old) (λ n. Computed op before.now n fresh left right) self.old self.new }
+        ensures { Confines (vars_of self.old) (λ n. Computed op self.old n fresh left right) self.old self.new }
     {
         match op {
-            ZoneOp::Add => self.sum(before, fresh, left, right),
-            ZoneOp::Sub => self.subtract(before, fresh, left, right),
-            ZoneOp::Mul => self.multiply(before, fresh, left, right),
-            ZoneOp::Div => self.divide(before, fresh, left, right),
-            ZoneOp::Rem => self.reduce(before, fresh, left, right),
+            ZoneOp::Add => self.sum(fresh, left, right),
+            ZoneOp::Sub => self.subtract(fresh, left, right),
+            ZoneOp::Mul => self.multiply(fresh, left, right),
+            ZoneOp::Div => self.divide(fresh, left, right),
+            ZoneOp::Rem => self.reduce(fresh, left, right),
         }
     }
 
@@ -63,17 +61,16 @@ impl Zone {
     }
 
     /// Makes the fresh variable equal to the sum.
-    fn sum(&mut self, before: &Zone, fresh: ZoneOperand, left: ZoneOperand, right: ZoneOperand)
+    fn sum(&mut self, fresh: ZoneOperand, left: ZoneOperand, right: ZoneOperand)
         requires fresh { IsOperand (vars_of self.old) fresh }
-        requires vars { vars_of self.old ≡ vars_of before.now + 1 }
-        requires normal { IsNormal before.now }
-        requires left { IsOperand (vars_of before.now) left }
-        requires right { IsOperand (vars_of before.now) right }
+        requires normal { IsNormal self.old }
+        requires left { IsOperand (vars_of self.old) left }
+        requires right { IsOperand (vars_of self.old) right }
         requires closed { HasClosedBounds self.old }
-        ensures { Confines (vars_of self.old) (λ n. IsSum before.now n fresh left right) self.old self.new }
+        ensures { Confines (vars_of self.old) (λ n. IsSum self.old n fresh left right) self.old self.new }
     {
-        let x = before.ends(left);
-        let y = before.ends(right);
+        let x = self.ends(left);
+        let y = self.ends(right);
         let lo = x.lo as i128 + y.lo as i128;
         let hi = x.hi as i128 + y.hi as i128;
         self.span(fresh, ZERO, lo, hi);
@@ -82,52 +79,50 @@ impl Zone {
     }
 
     /// Makes the fresh variable equal to the difference.
-    fn subtract(&mut self, before: &Zone, fresh: ZoneOperand, left: ZoneOperand, right: ZoneOperand)
+    fn subtract(&mut self, fresh: ZoneOperand, left: ZoneOperand, right: ZoneOperand)
         requires fresh { IsOperand (vars_of self.old) fresh }
-        requires vars { vars_of self.old ≡ vars_of before.now + 1 }
-        requires normal { IsNormal before.now }
-        requires left { IsOperand (vars_of before.now) left }
-        requires right { IsOperand (vars_of before.now) right }
+        requires normal { IsNormal self.old }
+        requires left { IsOperand (vars_of self.old) left }
+        requires right { IsOperand (vars_of self.old) right }
         requires closed { HasClosedBounds self.old }
-        ensures { Confines (vars_of self.old) (λ n. IsDifference before.now n fresh left right) self.old self.new }
+        ensures { Confines (vars_of self.old) (λ n. IsDifference self.old n fresh left right) self.old self.new }
     {
-        let y = before.ends(right);
-        let hi = before.difference(left, right);
-        let lo = -before.difference(right, left);
+        let y = self.ends(right);
+        let hi = self.difference(left, right);
+        let lo = -self.difference(right, left);
         self.span(fresh, ZERO, lo, hi);
         self.span(fresh, left, -(y.hi as i128), -(y.lo as i128));
     }
 
     /// Makes the fresh variable equal to the product.
-    fn multiply(&mut self, before: &Zone, fresh: ZoneOperand, left: ZoneOperand, right: ZoneOperand)
+    fn multiply(&mut self, fresh: ZoneOperand, left: ZoneOperand, right: ZoneOperand)
         requires fresh { IsOperand (vars_of self.old) fresh }
-        requires normal { IsNormal before.now }
-        requires left { IsOperand (vars_of before.now) left }
-        requires right { IsOperand (vars_of before.now) right }
+        requires normal { IsNormal self.old }
+        requires left { IsOperand (vars_of self.old) left }
+        requires right { IsOperand (vars_of self.old) right }
         requires closed { HasClosedBounds self.old }
-        ensures { Confines (vars_of self.old) (λ n. IsProduct before.now n fresh left right) self.old self.new }
+        ensures { Confines (vars_of self.old) (λ n. IsProduct self.old n fresh left right) self.old self.new }
     {
-        let x = before.ends(left);
-        let y = before.ends(right);
+        let x = self.ends(left);
+        let y = self.ends(right);
         let all = products(x, y);
-        let x_marked = before.nonzero(left);
-        let y_marked = before.nonzero(right);
+        let x_marked = self.nonzero(left);
+        let y_marked = self.nonzero(right);
         self.span(fresh, ZERO, all.lo, all.hi);
         self.make_nonzero_where(fresh, x_marked & y_marked);
     }
 
     /// Makes the fresh variable equal to the quotient, and the divisor nonzero.
-    fn divide(&mut self, before: &Zone, fresh: ZoneOperand, left: ZoneOperand, right: ZoneOperand)
+    fn divide(&mut self, fresh: ZoneOperand, left: ZoneOperand, right: ZoneOperand)
         requires fresh { IsOperand (vars_of self.old) fresh }
-        requires vars { vars_of self.old ≡ vars_of before.now + 1 }
-        requires normal { IsNormal before.now }
-        requires left { IsOperand (vars_of before.now) left }
-        requires right { IsOperand (vars_of before.now) right }
+        requires normal { IsNormal self.old }
+        requires left { IsOperand (vars_of self.old) left }
+        requires right { IsOperand (vars_of self.old) right }
         requires closed { HasClosedBounds self.old }
-        ensures { Confines (vars_of self.old) (λ n. IsQuotient before.now n fresh left right) self.old self.new }
+        ensures { Confines (vars_of self.old) (λ n. IsQuotient self.old n fresh left right) self.old self.new }
     {
-        let x = before.ends(left);
-        let y = before.ends(right);
+        let x = self.ends(left);
+        let y = self.ends(right);
         match quotients(x, y) {
             None => {
                 let vars = self.vars;
@@ -141,17 +136,16 @@ impl Zone {
     }
 
     /// Makes the fresh variable equal to the remainder, and the divisor nonzero.
-    fn reduce(&mut self, before: &Zone, fresh: ZoneOperand, left: ZoneOperand, right: ZoneOperand)
+    fn reduce(&mut self, fresh: ZoneOperand, left: ZoneOperand, right: ZoneOperand)
         requires fresh { IsOperand (vars_of self.old) fresh }
-        requires vars { vars_of self.old ≡ vars_of before.now + 1 }
-        requires normal { IsNormal before.now }
-        requires left { IsOperand (vars_of before.now) left }
-        requires right { IsOperand (vars_of before.now) right }
+        requires normal { IsNormal self.old }
+        requires left { IsOperand (vars_of self.old) left }
+        requires right { IsOperand (vars_of self.old) right }
         requires closed { HasClosedBounds self.old }
-        ensures { Confines (vars_of self.old) (λ n. IsRemainder before.now n fresh left right) self.old self.new }
+        ensures { Confines (vars_of self.old) (λ n. IsRemainder self.old n fresh left right) self.old self.new }
     {
-        let x = before.ends(left);
-        let y = before.ends(right);
+        let x = self.ends(left);
+        let y = self.ends(right);
         let size = y.size();
         let lo = least_remainder(x.lo, size);
         let hi = greatest_remainder(x.hi, size);

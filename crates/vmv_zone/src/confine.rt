@@ -2,10 +2,10 @@ ghost use Rattle.std.specs.Prelude.{◌≡◌, ◌+◌, ◌-◌, ◌^◌, ◌≤
 ghost use Rattle.vmv_zone.specs.Zone.{vars_of, bound_of, IsMarked};
 ghost use Rattle.vmv_zone.specs.Operand.{dif, IsOperand, IsNonzero, IsSpan};
 ghost use Rattle.vmv_zone.specs.Bounds.{IsWide};
-ghost use Rattle.vmv_zone.specs.Confine.{Confines, HasClosedBounds};
+ghost use Rattle.vmv_zone.specs.Confine.{Confines, HasClosedBounds, Extends};
 
 use crate::operand::ZoneOperand;
-use crate::tables::{close_through, extended_bounds};
+use crate::tables::{close_through, extend_bounds};
 use crate::zone::Zone;
 
 impl Zone {
@@ -33,15 +33,16 @@ impl Zone {
     /// Adds one variable, which may be any word.
     pub(crate) fn extend(&mut self)
         requires few { vars_of self.old ≤ 16 }
-        ensures { Confines (vars_of self.old + 1) (λ n. Unit {0}) self.old self.new }
+        ensures confines { Confines (vars_of self.old + 1) (λ n. Unit {0}) self.old self.new }
+        ensures extends { Extends self.old self.new }
     {
         if self.bottom {
             let vars = self.vars + 1;
             self.empty(vars);
             return;
         }
-        self.bounds = extended_bounds(&self.bounds, self.vars as usize);
         self.vars += 1;
+        extend_bounds(&mut self.bounds, self.vars as usize);
     }
 
     /// Lowers the bound on `i - j` to at most `bound`.

@@ -2,7 +2,7 @@ ghost use Rattle.std.specs.Prelude.{◌≡◌, ◌≤◌, ◌<◌};
 ghost use Rattle.vmv_zone.specs.Zone.{vars_of};
 ghost use Rattle.vmv_zone.specs.Step.{Drops};
 
-use crate::tables::dropped_bounds;
+use crate::tables::drop_bounds;
 use crate::zone::Zone;
 
 impl Zone {
@@ -17,7 +17,7 @@ impl Zone {
             self.empty(last - 1);
             return;
         }
-        self.bounds = dropped_bounds(&self.bounds, to as usize, last as usize);
+        drop_bounds(&mut self.bounds, to as usize, last as usize);
         self.marks[to as usize] = self.marks[last as usize];
         self.marks[last as usize] = false;
         self.vars = last - 1;

@@ -1,5 +1,6 @@
 ghost use Rattle.std.specs.Prelude.{◌≡◌, ◌↔◌, ◌≤ℤ◌, pos, negsuc, IsTrue};
-ghost use Rattle.vmv_zone.specs.Zone.{vars_of, IsNormal};
+ghost use Rattle.vmv_zone.specs.declared.zone.Zone.{Zone};
+ghost use Rattle.vmv_zone.specs.Zone.{vars_of, IsNormal, NotBottom};
 ghost use Rattle.vmv_zone.specs.Operand.{IsOperand, IsZero, IsNonzero, dif};
 ghost use Rattle.vmv_zone.specs.Confine.{Confines, HasClosedBounds};
 ghost use Rattle.vmv_zone.specs.Step.{Tested, IsApart, IsGuarded};
@@ -16,7 +17,8 @@ impl Zone {
         ensures { IsGuarded self test result }
     {
         self.normalize();
-        self.guard_normed(test)
+        self.hold(test);
+        self
     }
 
     /// The state where the test holds, where the state before it is normal.
@@ -27,9 +29,32 @@ impl Zone {
         ensures { IsGuarded self.now test result }
     {
         let mut after = *self;
-        after.meet(test);
-        after.normalize_closed();
+        after.hold(test);
         after
+    }
+
+    /// Makes the test hold, in a normal state.
+    pub fn hold(&mut self, test: ZoneTest)
+        requires normal { IsNormal self.old }
+        requires left { IsOperand (vars_of self.old) test.left }
+        requires right { IsOperand (vars_of self.old) test.right }
+        ensures { IsGuarded self.old test self.new }
+    {
+        self.meet(test);
+        self.normalize_closed();
+    }
+
+    /// Whether the test holds at some point of a normal state, as far as the state after the guard tells.
+    #[inline(never)]
+    pub fn allows(&self, test: ZoneTest) -> bool
+        requires normal { IsNormal self.now }
+        requires left { IsOperand (vars_of self.now) test.left }
+        requires right { IsOperand (vars_of self.now) test.right }
+        ensures { (g : Zone) × IsGuarded self.now test g × (IsTrue result ↔ NotBottom g) }
+    {
+        let mut after = *self;
+        after.hold(test);
+        !after.bottom
     }
 
     /// Adds what the test adds.

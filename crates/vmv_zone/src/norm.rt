@@ -18,7 +18,7 @@ impl Zone {
     }
 
     /// Lowers this state to its norm.
-    pub(crate) fn normalize(&mut self)
+    pub fn normalize(&mut self)
         ensures { IsNormOf self.old self.new }
     {
         if self.bottom {

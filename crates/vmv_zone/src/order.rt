@@ -1,4 +1,4 @@
-ghost use Rattle.std.specs.Prelude.{◌≡◌, ◌<◌, ◌==◌, ◌≤◌, ℤ, ℕ, ◌↔◌, IsTrue, ◌≤ℤ◌, pos, slice_index_or};
+ghost use Rattle.std.specs.Prelude.{◌≡◌, ◌<◌, ◌≤◌, ◌+◌, ◌*◌, ℤ, ℕ, ◌↔◌, IsTrue, ◌≤ℤ◌, pos, get_or, length};
 ghost use Rattle.std.specs.Int.{int_max};
 ghost use Rattle.vmv_zone.specs.Bounds.{IsMarkedIn, bound_at};
 
@@ -6,7 +6,7 @@ use crate::paths::CELLS;
 use crate::zone::Zone;
 
 impl Zone {
-    ghost use Rattle.vmv_zone.specs.Zone.{vars_of, IsBelow, IsJoin};
+    ghost use Rattle.vmv_zone.specs.Zone.{vars_of, IsBelow, IsJoin, IsNormal};
 
     /// Whether this state is below the other.
     pub fn below(&self, other: &Zone) -> bool
@@ -25,26 +25,36 @@ impl Zone {
     }
 
     /// The least state above both: the greater bounds, and the marks of both.
-    pub fn join(self, other: Zone) -> Zone
+    pub fn join(mut self, other: Zone) -> Zone
         requires { vars_of self ≡ vars_of other }
         ensures { IsJoin self other result }
     {
-        if self.bottom {
-            return other;
-        }
+        self.join_with(&other);
+        self
+    }
+
+    /// Raises this state to the least one above both: the greater bounds, and the marks of both.
+    pub fn join_with(&mut self, other: &Zone)
+        requires { vars_of self.old ≡ vars_of other.now }
+        ensures join { IsJoin self.old other.now self.new }
+        ensures normal { IsNormal self.old → IsNormal other.now → IsNormal self.new }
+    {
         if other.bottom {
-            return self;
+            return;
         }
-        let mut bounds = self.bounds;
-        raise(&mut bounds, &other.bounds);
-        let mut marks = self.marks;
-        keep_shared(&mut marks, &other.marks);
-        Zone {
-            vars: self.vars,
-            bottom: false,
-            bounds,
-            marks,
+        if self.bottom {
+            self.copy_from(other);
+            return;
         }
+        raise(&mut self.bounds, &other.bounds, self.vars as usize);
+        keep_shared(&mut self.marks, &other.marks);
+    }
+
+    /// Makes this state the other one.
+    pub fn copy_from(&mut self, other: &Zone)
+        ensures { self.new ≡ other.now }
+    {
+        *self = *other;
     }
 }
 
@@ -88,18 +98,22 @@ fn marks_below(marks: &[bool; 18], other: &[bool; 18], vars: usize) -> bool
     true
 }
 
-/// Raises each bound to the other.
-fn raise(bounds: &mut [i128; CELLS], other: &[i128; CELLS])
-    ensures { (k : ℕ) → slice_index_or bounds.new k (pos 0) ≡ int_max (slice_index_or bounds.old k (pos 0)) (slice_index_or other.now k (pos 0)) }
+/// Raises each bound on the things to the other.
+fn raise(bounds: &mut [i128; CELLS], other: &[i128; CELLS], vars: usize)
+    requires few { vars ≤ 17 }
+    ensures full { length bounds.new ≡ 324 }
+    ensures raised { (k : ℕ) → k < 18 * (vars + 1) → get_or bounds.new k (pos 0) ≡ int_max (get_or bounds.old k (pos 0)) (get_or other.now k (pos 0)) }
+    ensures others { (k : ℕ) → 18 * (vars + 1) ≤ k → get_or bounds.new k (pos 0) ≡ get_or bounds.old k (pos 0) }
 {
-    for place in 0..CELLS {
+    for place in 0..18 * (vars + 1) {
         bounds[place] = bounds[place].max(other[place]);
     }
 }
 
 /// Keeps the marks that the other has too.
 fn keep_shared(marks: &mut [bool; 18], other: &[bool; 18])
-    ensures { (i : ℕ) → IsMarkedIn marks.new i ↔ (IsMarkedIn marks.old i × IsMarkedIn other.now i) }
+    ensures full { length marks.new ≡ 18 }
+    ensures shared { (i : ℕ) → IsMarkedIn marks.new i ↔ (IsMarkedIn marks.old i × IsMarkedIn other.now i) }
 {
     for i in 0..18 {
         if !other[i] {

@@ -1,4 +1,4 @@
-ghost use Rattle.vmv_zone.specs.Zone.{vars_of};
+ghost use Rattle.vmv_zone.specs.Zone.{vars_of, IsNormal};
 ghost use Rattle.vmv_zone.specs.Operand.{IsOperand};
 ghost use Rattle.vmv_zone.specs.Read.{IsRangeOf};
 
@@ -15,11 +15,20 @@ impl Zone {
     {
         let mut before = *self;
         before.normalize();
-        if before.bottom {
+        before.range_normed(of)
+    }
+
+    /// The values of the operand, where this state is normal.
+    pub fn range_normed(&self, of: ZoneOperand) -> Cond
+        requires normal { IsNormal self.now }
+        requires operand { IsOperand (vars_of self.now) of }
+        ensures { IsRangeOf self.now of result }
+    {
+        if self.bottom {
             return Cond::of(1, 0, true);
         }
-        let ends = before.ends(of);
-        let marked = before.nonzero(of);
+        let ends = self.ends(of);
+        let marked = self.nonzero(of);
         Cond::of(ends.lo, ends.hi, marked)
     }
 }

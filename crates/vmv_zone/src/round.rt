@@ -1,6 +1,6 @@
 ghost use Rattle.std.specs.Prelude.{◌≡◌, ◌≤◌, ◌<◌, ◌-◌, ◌^◌, pos, ◌≤ℤ◌};
 ghost use Rattle.std.specs.List.{Contains};
-ghost use Rattle.vmv_zone.specs.Bounds.{IsInReach, AreInReach, IsTableBy, bound_at};
+ghost use Rattle.vmv_zone.specs.Bounds.{IsInReach, AreInReach, AreZeroOutside, IsTableBy, bound_at};
 ghost use Rattle.vmv_zone.specs.Zone.{vars_of};
 ghost use Rattle.vmv_zone.specs.Round.{AreSorted, IsLeastFrom, IsRounded};
 
@@ -19,33 +19,42 @@ impl Zone {
         requires most { Contains thresholds.now (pos (2 ^ 64 - 1)) }
         ensures { IsRounded thresholds.now self.now result }
     {
+        let mut rounded = *self;
+        rounded.raise_to(thresholds);
+        rounded
+    }
+
+    /// Raises this state to the least one all of whose bounds are thresholds; Bottom stays Bottom. It isn't normed.
+    ///
+    /// The thresholds are in order, and have 0 and the bounds that words keep.
+    pub fn raise_to(&mut self, thresholds: &[i128])
+        requires sorted { AreSorted thresholds.now }
+        requires zero { Contains thresholds.now (pos 0) }
+        requires greatest_word { Contains thresholds.now (pos (2 ^ 63 - 1)) }
+        requires least_word { Contains thresholds.now (pos (2 ^ 63)) }
+        requires most { Contains thresholds.now (pos (2 ^ 64 - 1)) }
+        ensures { IsRounded thresholds.now self.old self.new }
+    {
         if self.bottom {
-            return *self;
+            return;
         }
-        let bounds = rounded_bounds(&self.bounds, self.vars as usize, thresholds);
-        let marks = self.marks;
-        Zone {
-            vars: self.vars,
-            bottom: false,
-            bounds,
-            marks,
-        }
+        round_bounds(&mut self.bounds, self.vars as usize, thresholds);
     }
 }
 
-/// The bounds with each one raised to a threshold.
-fn rounded_bounds(bounds: &[i128; CELLS], vars: usize, thresholds: &[i128]) -> [i128; CELLS]
+/// Raises each bound to a threshold.
+fn round_bounds(bounds: &mut [i128; CELLS], vars: usize, thresholds: &[i128])
     requires few { vars ≤ 17 }
-    requires reach { AreInReach bounds.now }
+    requires reach { AreInReach bounds.old }
+    requires outside { AreZeroOutside vars bounds.old }
     requires sorted { AreSorted thresholds.now }
     requires most { Contains thresholds.now (pos (2 ^ 64 - 1)) }
-    ensures { IsTableBy (λ i j t. IsLeastFrom thresholds.now (bound_at bounds.now i j) t) vars result }
+    ensures { IsTableBy (λ i j t. IsLeastFrom thresholds.now (bound_at bounds.old i j) t) vars bounds.new }
 {
-    let mut rounded = [0; CELLS];
     for place in 0..18 * (vars + 1) {
-        rounded[place] = rounded_at(bounds, vars, place / 18, place % 18, thresholds);
+        let threshold = rounded_at(bounds, vars, place / 18, place % 18, thresholds);
+        bounds[place] = threshold;
     }
-    rounded
 }
 
 /// The bound on `i - j` raised to a threshold; 0 where `j` is past the last variable.

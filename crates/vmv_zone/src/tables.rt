@@ -1,6 +1,7 @@
-ghost use Rattle.std.specs.Prelude.{◌≡◌, ◌≢◌, ◌⊎◌, ◌<◌, ◌≤◌, ◌+◌, ◌-◌, ◌^◌, ℕ, pos, negsuc, ◌+ℤ◌, ◌≤ℤ◌};
+ghost use Rattle.std.specs.Prelude.{◌≡◌, ◌≢◌, ◌⊎◌, ◌<◌, ◌≤◌, ◌+◌, ◌-◌, ◌^◌, ℕ, pos, negsuc, ◌+ℤ◌, ◌≤ℤ◌, length, get_or};
 ghost use Rattle.std.specs.Int.{int_min};
-ghost use Rattle.vmv_zone.specs.Bounds.{IsInReach, AreInReach, AreUnderTop, AreZeroOutside, IsClosed, IsWide, IsTable, IsTableBy, bound_at, top_bound, inner_bound, extended_bound, dropped_bound, freed_bound, through_bound, moved};
+ghost use Rattle.vmv_zone.specs.Bounds.{IsInReach, AreInReach, AreUnderTop, AreZeroOutside, IsClosed, IsWide, IsTable, IsTableBy, bound_at, top_bound, inner_bound, extended_bound, dropped_bound, freed_bound, through_bound};
+ghost use Rattle.vmv_zone.specs.Lines.{LineSet, ColumnCopied, RowCopied};
 
 use crate::paths::CELLS;
 
@@ -41,18 +42,21 @@ fn top_inside(vars: usize, i: usize, j: usize) -> i128
     top_of(i, j)
 }
 
-/// The bounds with those on one variable more, as words and the bounds against 0 keep them.
-pub(crate) fn extended_bounds(bounds: &[i128; CELLS], vars: usize) -> [i128; CELLS]
-    requires few { vars ≤ 16 }
-    requires reach { AreInReach bounds.now }
-    requires topped { AreUnderTop vars bounds.now }
-    ensures { IsTableBy (λ i j b. b ≡ extended_bound bounds.now (vars + 1) i j) (vars + 1) result }
+/// Adds the bounds on the variable `last`, as words and the bounds against 0 keep them. There are none on it before.
+pub(crate) fn extend_bounds(bounds: &mut [i128; CELLS], last: usize)
+    requires last { last ≤ 17 }
+    requires variable { 1 ≤ last }
+    requires reach { AreInReach bounds.old }
+    requires topped { AreUnderTop (last - 1) bounds.old }
+    requires outside { AreZeroOutside (last - 1) bounds.old }
+    ensures { IsTableBy (λ i j b. b ≡ extended_bound bounds.old last i j) last bounds.new }
 {
-    let mut extended = [0; CELLS];
-    for place in 0..18 * (vars + 2) {
-        extended[place] = extended_at(bounds, vars + 1, place / 18, place % 18);
+    for k in 0..last {
+        let from = extended_at(bounds, last, last, k);
+        let to = extended_at(bounds, last, k, last);
+        bounds[18 * last + k] = from;
+        bounds[18 * k + last] = to;
     }
-    extended
 }
 
 /// The bound on `i - j`, as words and the bounds against 0 keep it where one of them is `last`; 0 where `j` is past it.
@@ -127,68 +131,79 @@ fn lower_row(bounds: &mut [i128; CELLS], vars: usize, j: usize, p: usize, throug
     }
 }
 
-/// The bounds with those on the last variable in place of those on `to`, and none on the last.
-pub(crate) fn dropped_bounds(bounds: &[i128; CELLS], to: usize, last: usize) -> [i128; CELLS]
+/// Puts the bounds on the last variable in place of those on `to`, and leaves none on the last.
+pub(crate) fn drop_bounds(bounds: &mut [i128; CELLS], to: usize, last: usize)
     requires last { last ≤ 17 }
     requires to { to < last }
-    requires reach { AreInReach bounds.now }
-    ensures { IsTable (dropped_bound bounds.now to last) (last - 1) result }
+    requires reach { AreInReach bounds.old }
+    requires outside { AreZeroOutside last bounds.old }
+    ensures { IsTable (dropped_bound bounds.old to last) (last - 1) bounds.new }
 {
-    let mut dropped = [0; CELLS];
-    for place in 0..18 * last {
-        dropped[place] = dropped_at(bounds, to, last, place / 18, place % 18);
-    }
-    dropped
+    copy_column(bounds, to, last);
+    copy_row(bounds, to, last);
+    clear_line(bounds, last);
 }
 
-/// The bound on `i - j` with the last variable in place of `to`; 0 where `j` is the last or past it.
-fn dropped_at(bounds: &[i128; CELLS], to: usize, last: usize, i: usize, j: usize) -> i128
+/// Puts the upper bounds on differences to the last variable in place of those on differences to `to`.
+fn copy_column(bounds: &mut [i128; CELLS], to: usize, last: usize)
     requires last { last ≤ 17 }
-    requires i { i < last }
-    requires j { j ≤ 17 }
-    ensures { result ≡ inner_bound (last - 1) j (dropped_bound bounds.now to last i j) }
+    requires to { to < last }
+    requires reach { AreInReach bounds.old }
+    ensures { ColumnCopied bounds.old bounds.new to last (last + 1) }
 {
-    if j >= last {
-        return 0;
+    for k in 0..last + 1 {
+        bounds[18 * k + to] = bounds[18 * k + last];
     }
-    bounds[18 * moved_to(to, last, i) + moved_to(to, last, j)]
 }
 
-/// The bounds with top's on the variable `x`.
-pub(crate) fn freed_bounds(bounds: &[i128; CELLS], vars: usize, x: usize) -> [i128; CELLS]
-    requires few { vars ≤ 17 }
-    requires reach { AreInReach bounds.now }
-    ensures { IsTable (freed_bound bounds.now x) vars result }
+/// Puts the bounds on differences of the last variable in place of those on differences of `to`.
+fn copy_row(bounds: &mut [i128; CELLS], to: usize, last: usize)
+    requires last { last ≤ 17 }
+    requires to { to < last }
+    requires reach { AreInReach bounds.old }
+    ensures { RowCopied bounds.old bounds.new to last last }
 {
-    let mut freed = [0; CELLS];
+    for k in 0..last {
+        bounds[18 * to + k] = bounds[18 * last + k];
+    }
+}
+
+/// Leaves no bounds on the last variable.
+fn clear_line(bounds: &mut [i128; CELLS], last: usize)
+    requires last { last ≤ 17 }
+    requires reach { AreInReach bounds.old }
+    ensures { LineSet (λ i j. pos 0) bounds.old bounds.new last (last + 1) }
+{
+    for k in 0..last + 1 {
+        bounds[18 * last + k] = 0;
+        bounds[18 * k + last] = 0;
+    }
+}
+
+/// Puts top's bounds in place of those on the variable `x`.
+pub(crate) fn free_bounds(bounds: &mut [i128; CELLS], vars: usize, x: usize)
+    requires few { vars ≤ 17 }
+    requires x { x ≤ vars }
+    requires reach { AreInReach bounds.old }
+    requires outside { AreZeroOutside vars bounds.old }
+    ensures { IsTable (freed_bound bounds.old x) vars bounds.new }
+{
+    for k in 0..vars + 1 {
+        let from = top_of(x, k);
+        let to = top_of(k, x);
+        bounds[18 * x + k] = from;
+        bounds[18 * k + x] = to;
+    }
+}
+
+/// Leaves no bounds at all.
+pub(crate) fn blank_bounds(bounds: &mut [i128; CELLS], vars: usize)
+    requires few { vars ≤ 17 }
+    requires outside { AreZeroOutside vars bounds.old }
+    ensures full { length bounds.new ≡ 324 }
+    ensures zeros { (k : ℕ) → get_or bounds.new k (pos 0) ≡ pos 0 }
+{
     for place in 0..18 * (vars + 1) {
-        freed[place] = freed_at(bounds, vars, x, place / 18, place % 18);
+        bounds[place] = 0;
     }
-    freed
-}
-
-/// The bound on `i - j`, but top's where one of them is `x`; 0 where `j` is past the last thing.
-fn freed_at(bounds: &[i128; CELLS], vars: usize, x: usize, i: usize, j: usize) -> i128
-    requires few { vars ≤ 17 }
-    requires i { i ≤ vars }
-    requires j { j ≤ 17 }
-    ensures { result ≡ inner_bound vars j (freed_bound bounds.now x i j) }
-{
-    if j > vars {
-        return 0;
-    }
-    if i == x || j == x {
-        return top_of(i, j);
-    }
-    bounds[18 * i + j]
-}
-
-/// `last` in place of `to`.
-fn moved_to(to: usize, last: usize, i: usize) -> usize
-    requires last { last ≤ 17 }
-    requires i { i ≤ 17 }
-    ensures moved { result ≡ moved to last i }
-    ensures inside { result ≤ 17 }
-{
-    if i == to { last } else { i }
 }

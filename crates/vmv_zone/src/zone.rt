@@ -2,7 +2,7 @@ ghost use Rattle.std.specs.Prelude.{◌≡◌, ◌≤◌, ℕ, IsTrue, length};
 ghost use Rattle.vmv_zone.specs.Bounds.{AreInReach, AreUnderTop, AreZeroOutside, AreOnVariables, AreBlank};
 
 use crate::paths::CELLS;
-use crate::tables::{freed_bounds, top_bounds};
+use crate::tables::{blank_bounds, free_bounds, top_bounds};
 
 /// An abstract state: bounds on the differences of up to 16 variables and 0, with a mark on each variable that is
 /// known not to be 0; or Bottom, which has no point.
@@ -68,14 +68,15 @@ impl Zone {
     }
 
     /// Leaves the state with no point over so many variables here.
-    #[cold]
-    #[inline(never)]
-    pub(crate) fn empty(&mut self, vars: u8)
+    pub fn empty(&mut self, vars: u8)
         requires { vars ≤ 17 }
         ensures vars { vars_of self.new ≡ vars }
         ensures bottom { IsBottom self.new }
     {
-        *self = Zone::none(vars);
+        blank_bounds(&mut self.bounds, self.vars as usize);
+        self.marks = [false; 18];
+        self.bottom = true;
+        self.vars = vars;
     }
 
     /// How many variables the state has.
@@ -156,20 +157,24 @@ impl Zone {
     }
 
     /// The same state with top's bounds on the variable `i`, and no mark on it. It isn't normed.
-    pub fn free(self, i: u8) -> Zone
+    pub fn free(mut self, i: u8) -> Zone
         requires not_bottom { NotBottom self }
         requires variable { 1 ≤ i }
         requires i { i ≤ vars_of self }
         ensures { IsFreed self result i }
     {
-        let bounds = freed_bounds(&self.bounds, self.vars as usize, i as usize);
-        let mut marks = self.marks;
-        marks[i as usize] = false;
-        Zone {
-            vars: self.vars,
-            bottom: self.bottom,
-            bounds,
-            marks,
-        }
+        self.forget(i);
+        self
+    }
+
+    /// Puts top's bounds on the variable `i`, and no mark on it. The state isn't normed.
+    pub fn forget(&mut self, i: u8)
+        requires not_bottom { NotBottom self.old }
+        requires variable { 1 ≤ i }
+        requires i { i ≤ vars_of self.old }
+        ensures { IsFreed self.old self.new i }
+    {
+        free_bounds(&mut self.bounds, self.vars as usize, i as usize);
+        self.marks[i as usize] = false;
     }
 }

@@ -1,6 +1,5 @@
 use Rattle.std.proofs.Common.{arith}
 use Rattle.std.proofs.lemmas.Int.{ints}
-use Rattle.vmv_zone.proofs.Words.{operand_more}
 use Rattle.vmv_zone.proofs.Values.{difference_of}
 use Rattle.vmv_zone.proofs.zone.Zone.subtract.Goals as goal
 
@@ -22,11 +21,8 @@ span-requires-2-clause-lo c = record { low = omega (arith, ints); high = omega (
 pub span-requires-2-clause-hi : goal.span-requires-2-clause-hi
 span-requires-2-clause-hi c = record { low = omega (arith, ints); high = omega (arith, ints) }
 
-pub span-requires-2-clause-right : goal.span-requires-2-clause-right
-span-requires-2-clause-right c = operand_more _ _ _ (omega (arith, c.requires.vars, c.span.ensures.vars)) c.requires.left
-
 pub returns : goal.returns
-returns c = difference_of c.args.before.now c.args.fresh c.args.left c.args.right _ _ _ _ c.span.ensures c.span-2.ensures
+returns c = difference_of c.args.self.now c.args.fresh c.args.left c.args.right _ _ _ _ c.span.ensures c.span-2.ensures
     (let l = c.difference-lo.ensures.wide.low in let h = c.difference-lo.ensures.wide.high in omega (arith, ints, c.difference-lo.ensures.value))
     (omega (arith, ints, c.difference-hi.ensures.value))
     (omega (arith, ints, c.ends-y.ensures.hi)) (omega (arith, ints, c.ends-y.ensures.lo))

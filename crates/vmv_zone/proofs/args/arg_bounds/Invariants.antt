@@ -1,7 +1,0 @@
-use Rattle.std.proofs.Common.{length}
-use Rattle.vmv_zone.specs.Args.{IsArgBound}
-use Rattle.vmv_zone.proofs.Filled.{FilledBy}
-use Rattle.vmv_zone.proofs.args.arg_bounds.Given as goal
-
-abbrev pub invariant-loop-place : goal.invariant-loop-place
-invariant-loop-place l = FilledBy (λ i j b. IsArgBound l.before l.args i j b) (length l.args) l.bounds l.place
