@@ -51,10 +51,15 @@ impl Reader {
     fn ask<T: Trial>(&mut self, trial: &T, ask: &[u8], sheet: &mut Sheet) -> bool {
         self.place = Place::Asks;
         trial.answer(self.alloc, &self.case, ask, sheet);
+        self.tell_memory(sheet);
+        !sheet.is_refused()
+    }
+
+    /// Tells where memory ran out for a text.
+    fn tell_memory(&self, sheet: &mut Sheet) {
         if self.case.is_short() {
             sheet.fall_short();
         }
-        !sheet.is_refused()
     }
 
     /// Reads a line that begins nothing.
@@ -100,6 +105,7 @@ pub fn write_answers<T: Trial>(
     for line in file.split(|byte| *byte == b'\n') {
         number = number.saturating_add(1);
         if !reader.line(trial, line, sheet) {
+            reader.tell_memory(sheet);
             return Some(number);
         }
     }
