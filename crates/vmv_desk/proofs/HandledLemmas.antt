@@ -5,7 +5,7 @@ use Rattle.vmv_keeper.specs.declared.reply.Reply.{Reply}
 use Rattle.vmv_keeper.specs.declared.reply.Reply.TheVariants.{StoreFault, Memory as NoMemory}
 use Rattle.vmv_keeper.specs.declared.fault.KeepFault.{KeepFault}
 use Rattle.vmv_keeper.specs.declared.fault.KeepFault.TheVariants.{Failed, Memory}
-use Rattle.vmv_keeper.specs.Tables.{Tables}
+use Rattle.vmv_keeper.specs.Tables.{Tables, no_rows}
 use Rattle.vmv_keeper.specs.Outside.{OfTold}
 use Rattle.vmv_keeper.specs.Formed.{AreFormed}
 use Rattle.vmv_desk_rules.specs.Causes.{Meaning}
@@ -14,6 +14,7 @@ use Rattle.vmv_desk_rules.specs.Well.{Well}
 use Rattle.vmv_desk_rules.specs.Keeping.{ReadsUtf8}
 use Rattle.vmv_desk_rules.specs.Runs.{Turn, Runs, RanTo}
 use Rattle.vmv_desk_rules.proofs.WellLemmas.{Well-step}
+use Rattle.vmv_desk_rules.proofs.BegunLemmas.{Well-none}
 use Rattle.vmv_desk.specs.AtHand.{IsStepped}
 
 pub handled_of : (told then : Option Tables) (J : Meaning) (command : Command) (result : Result Reply KeepFault) (reply : Reply)
@@ -84,3 +85,9 @@ pub take_past : {X : Type 0} (n : ℕ) (xs : List X) → length xs ≤ n → tak
 take_past n [] le = take-nil n
 take_past zero (x ∷ xs) le = absurd (omega arith)
 take_past (suc n) (x ∷ xs) le = ap (λ l. x ∷ l) (take_past n xs (omega arith))
+
+-- a history that begins without rows
+pub ran_begun : (told now : Option Tables) (J : Meaning) (commands : List Command) (replies : List Reply) → OfTold told (λ tables. Well J tables → RanTo J tables commands now replies)
+    → told ≡ Some no_rows → RanTo J no_rows commands now replies
+ran_begun told now J commands replies ran none =
+    let P : Option Tables → Type 0 = λ t. OfTold t (λ tables. Well J tables → RanTo J tables commands now replies) in subst P none ran (Well-none J)

@@ -1,7 +1,8 @@
-ghost use Rattle.std.specs.Prelude.{◌≡◌, ◌≢◌, ◌⊎◌, None, Err, IfOk, IfErr, OnErr};
+ghost use Rattle.std.specs.Prelude.{◌≡◌, ◌≢◌, ◌⊎◌, None, Some, Err, IfOk, IfErr, OnErr};
 ghost use Rattle.vmv_edge.specs.Outside.{Rose};
 ghost use Rattle.vmv_keeper.specs.Outside.{Counts, OfTold};
 ghost use Rattle.vmv_keeper.specs.Formed.{AreFormed};
+ghost use Rattle.vmv_keeper.specs.Tables.{no_rows};
 ghost use Rattle.vmv_desk_rules.specs.Step.{Handled, IsFault};
 ghost use Rattle.vmv_desk_rules.specs.Replies.{IsReplyTo};
 ghost use Rattle.vmv_desk_rules.specs.Well.{Well};
@@ -132,7 +133,7 @@ impl<K: Keeper> Desk<K> {
     }
 
     /// Handles commands one after another. It fails, with nothing done, where there is no memory for the list
-    /// of the replies.
+    /// of the replies. Over a store that tells that it has no rows nothing else is asked.
     pub fn handle_all<J: Judge>(
         &mut self,
         alloc: Global,
@@ -140,6 +141,7 @@ impl<K: Keeper> Desk<K> {
         judge: &J,
     ) -> Result<Vec<Reply>, AllocError>
         ensures ran { IfOk result (λ replies. OfTold (K.told self.old) (λ tables. Well (says (J.inspected judge.now) (J.compared judge.now)) tables → RanTo (says (J.inspected judge.now) (J.compared judge.now)) tables commands.now (K.told self.new) replies.items)) }
+        ensures begun { IfOk result (λ replies. K.told self.old ≡ Some no_rows → RanTo (says (J.inspected judge.now) (J.compared judge.now)) no_rows commands.now (K.told self.new) replies.items) }
         ensures refused { OnErr result (self.new ≡ self.old) }
     {
         let mut replies = Vec::with_capacity(alloc, commands.len())?;

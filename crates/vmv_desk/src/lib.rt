@@ -13,6 +13,7 @@ mod queues;
 mod row_causes;
 
 pub use desk::{Desk, StartFault};
+pub use vmv_desk_rules::{OldRow, OldRows, migrate};
 pub use vmv_keeper::{
     Act, Bench, Benches, Change, Command, Compared, Held, Inspected, Judge, KeepFault, Keeper,
     Kept, Label, Labels, Numbers, PendingRow, PendingRows, Query, Reply, Submitted, VersionRow,

@@ -7,7 +7,7 @@ use Rattle.vmv_keeper.specs.Outside.{OfTold}
 use Rattle.vmv_desk_rules.specs.Causes.{says}
 use Rattle.vmv_desk_rules.specs.Well.{Well}
 use Rattle.vmv_desk_rules.specs.Runs.{RanTo}
-use Rattle.vmv_desk.proofs.HandledLemmas.{ran_more, take_past}
+use Rattle.vmv_desk.proofs.HandledLemmas.{ran_more, ran_begun, take_past}
 use Rattle.vmv_desk.proofs.desk.Desk.handle_all.Goals as goal
 
 pub loop-command-preserved : goal.loop-command-preserved
@@ -35,3 +35,11 @@ returns-clause-ran g c =
     let J = says (g.J.Judge.inspected c.args.judge.now) (g.J.Judge.compared c.args.judge.now) in
     let P : List Command → Type 0 = λ l. OfTold (g.K.Keeper.told c.args.self.now) (λ tables. Well J tables → RanTo J tables l (g.K.Keeper.told c.loop-command.self) c.loop-command.replies.items) in
     subst P (take_past c.loop-command.command-index c.args.commands.now c.loop-command-test.false) c.loop-command.invariant.ran
+
+pub returns-clause-begun : goal.returns-clause-begun
+returns-clause-begun g c =
+    let J = says (g.J.Judge.inspected c.args.judge.now) (g.J.Judge.compared c.args.judge.now) in
+    let told = g.K.Keeper.told c.args.self.now in
+    let now = g.K.Keeper.told c.loop-command.self in
+    let P : List Command → Type 0 = λ l. OfTold told (λ tables. Well J tables → RanTo J tables l now c.loop-command.replies.items) in
+    ran_begun told now J c.args.commands.now c.loop-command.replies.items (subst P (take_past c.loop-command.command-index c.args.commands.now c.loop-command-test.false) c.loop-command.invariant.ran)
