@@ -116,14 +116,8 @@ bound_told z m x cap cap' high norm up' ec eh =
     let iff : IsTrue (int_lt cap' high) ↔ (cap <ℤ up m x) = rw (sym ec, sym eh) (less_iff cap' high) in
     record { before = m; norm = norm; tells = ((λ t. (up', iff.0 t)), (λ h. iff.1 h.1)) }
 
-negated : (b bottom : Bool) → IsTrue b ↔ IsTrue bottom → IsTrue (not b) ↔ IsFalse bottom
-negated true true iff = ((λ t. absurd (cc)), (λ f. absurd (cc)))
-negated true false iff = ((λ t. refl), (λ f. let h = iff.0 refl in absurd (cc)))
-negated false true iff = ((λ t. let h = iff.1 refl in absurd (cc)), (λ f. refl))
-negated false false iff = ((λ t. refl), (λ f. refl))
-
-pub test_told : (test t : ZoneTest) (z g : Zone) (b : Bool) → IsGuarded z t g → t ≡ negation test → IsTrue b ↔ IsTrue g.bottom → TellsTest test z (not b)
-test_told test t z g b guard e iff = record { failing = g; guard = subst (λ (k : ZoneTest). IsGuarded z k g) e guard; tells = negated b g.bottom iff }
+pub test_told : (test t : ZoneTest) (z : Zone) (b : Bool) → ((g : Zone) × IsGuarded z t g × (IsTrue b ↔ IsFalse g.bottom)) → t ≡ negation test → TellsTest test z b
+test_told test t z b told e = record { failing = told.0; guard = subst (λ (k : ZoneTest). IsGuarded z k told.0) e told.1; tells = told.2 }
 
 -- where z is nonzero, a quotient may fail where the least word may be divided by -1
 pub quotient_only : (m : Zone) (x y : ZoneOperand) (r k : Bool) (lo c d : ℤ) → IsTrue r ↔ IsLeastByMinusOne lo c d → lo ≡ low m x → c ≡ low m y → d ≡ up m y → IsTrue k → IsTrue k ↔ IsNonzero m y →

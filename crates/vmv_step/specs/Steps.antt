@@ -34,6 +34,10 @@ Tells (Arith to op left right site) z unproved = TellsArith (zone_op op) z (zone
 Tells (Ask to callee args) z unproved = IsFalse unproved
 Tells (Assert test site) z unproved = TellsTest (zone_test test) z unproved
 
+-- a state after a statement, and whether its site is unproved
+abbrev pub stepped : Zone → Bool → Stepped
+stepped zone unproved = record { zone = zone; unproved = unproved }
+
 -- the step of a statement from the state z
 pub record IsStepped (stmt : Simple) (A : Name → Cond) (z : Zone) (s : Stepped) : Type 0 where
   pub zone : IsAfter stmt A z s.zone

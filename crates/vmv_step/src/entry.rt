@@ -63,7 +63,11 @@ fn entered(input: &Zone, declared: u8, count: u8) -> Zone
         return Zone::bottom(count);
     }
     let top = Zone::top(count);
-    with_marks(with_bounds(input, declared, &top), input).norm()
+    let mut zone = top;
+    set_bounds(&mut zone, input, declared, &top);
+    set_marks(&mut zone, input);
+    zone.normalize();
+    zone
 }
 
 /// Whether the thing is the variable of a declared name: one of those that stand behind so many parameters.
@@ -93,60 +97,56 @@ fn bound_between(input: &Zone, declared: u8, top: &Zone, i: u8, j: u8) -> i128
     if above || below { 0 } else { top.bound(i, j) }
 }
 
-/// The state with the bounds on `i` with which a procedure starts.
-fn with_row(zone: Zone, input: &Zone, declared: u8, top: &Zone, i: u8) -> Zone
+/// Sets the bounds on `i` to those with which a procedure starts.
+fn set_row(zone: &mut Zone, input: &Zone, declared: u8, top: &Zone, i: u8)
     requires few { vars_of input.now + declared ≤ 16 }
     requires top { IsTop top.now }
     requires count { vars_of top.now ≤ 16 }
-    requires same { vars_of zone ≡ vars_of top.now }
-    requires not_bottom { NotBottom zone }
+    requires same { vars_of zone.old ≡ vars_of top.now }
+    requires not_bottom { NotBottom zone.old }
     requires i { i ≤ vars_of top.now }
-    ensures vars { vars_of result ≡ vars_of zone }
-    ensures not_bottom { NotBottom result }
-    ensures row { (j : ℕ) → j ≤ vars_of zone → bound_of result i j ≡ entered_bound input.now (vars_of input.now) declared i j }
-    ensures others { (p q : ℕ) → p ≤ vars_of zone → q ≤ vars_of zone → p ≢ i → bound_of result p q ≡ bound_of zone p q }
-    ensures marks { (p : ℕ) → mark_of result p ≡ mark_of zone p }
+    ensures vars { vars_of zone.new ≡ vars_of zone.old }
+    ensures not_bottom { NotBottom zone.new }
+    ensures row { (j : ℕ) → j ≤ vars_of zone.old → bound_of zone.new i j ≡ entered_bound input.now (vars_of input.now) declared i j }
+    ensures others { (p q : ℕ) → p ≤ vars_of zone.old → q ≤ vars_of zone.old → p ≢ i → bound_of zone.new p q ≡ bound_of zone.old p q }
+    ensures marks { (p : ℕ) → mark_of zone.new p ≡ mark_of zone.old p }
 {
-    let mut row = zone;
-    for j in 0..zone.vars() + 1 {
-        row.set_bound(i, j, bound_between(input, declared, top, i, j));
+    for j in 0..top.vars() + 1 {
+        let bound = bound_between(input, declared, top, i, j);
+        zone.set_bound(i, j, bound);
     }
-    row
 }
 
-/// The state with the bounds with which a procedure starts, and no marks.
-fn with_bounds(input: &Zone, declared: u8, top: &Zone) -> Zone
+/// Sets the bounds to those with which a procedure starts.
+fn set_bounds(zone: &mut Zone, input: &Zone, declared: u8, top: &Zone)
     requires few { vars_of input.now + declared ≤ 16 }
     requires top { IsTop top.now }
     requires count { vars_of top.now ≤ 16 }
-    ensures vars { vars_of result ≡ vars_of top.now }
-    ensures not_bottom { NotBottom result }
-    ensures bounds { (p q : ℕ) → p ≤ vars_of top.now → q ≤ vars_of top.now → bound_of result p q ≡ entered_bound input.now (vars_of input.now) declared p q }
-    ensures marks { (p : ℕ) → mark_of result p ≡ false }
+    requires same { zone.old ≡ top.now }
+    ensures vars { vars_of zone.new ≡ vars_of top.now }
+    ensures not_bottom { NotBottom zone.new }
+    ensures bounds { (p q : ℕ) → p ≤ vars_of top.now → q ≤ vars_of top.now → bound_of zone.new p q ≡ entered_bound input.now (vars_of input.now) declared p q }
+    ensures marks { (p : ℕ) → mark_of zone.new p ≡ false }
 {
-    let mut zone = *top;
     for i in 0..top.vars() + 1 {
-        zone = with_row(zone, input, declared, top, i);
+        set_row(zone, input, declared, top, i);
     }
-    zone
 }
 
-/// The state with the input's marks.
-fn with_marks(zone: Zone, input: &Zone) -> Zone
-    requires not_bottom { NotBottom zone }
-    requires inside { vars_of input.now ≤ vars_of zone }
+/// Sets the input's marks.
+fn set_marks(zone: &mut Zone, input: &Zone)
+    requires not_bottom { NotBottom zone.old }
+    requires inside { vars_of input.now ≤ vars_of zone.old }
     requires few { vars_of input.now ≤ 16 }
-    requires unmarked { (p : ℕ) → mark_of zone p ≡ false }
-    ensures vars { vars_of result ≡ vars_of zone }
-    ensures not_bottom { NotBottom result }
-    ensures bounds { (p q : ℕ) → bound_of result p q ≡ bound_of zone p q }
-    ensures marks { (p : ℕ) → mark_of result p ≡ (if nat_le p (vars_of input.now) then mark_of input.now p else false) }
+    requires unmarked { (p : ℕ) → mark_of zone.old p ≡ false }
+    ensures vars { vars_of zone.new ≡ vars_of zone.old }
+    ensures not_bottom { NotBottom zone.new }
+    ensures bounds { (p q : ℕ) → bound_of zone.new p q ≡ bound_of zone.old p q }
+    ensures marks { (p : ℕ) → mark_of zone.new p ≡ (if nat_le p (vars_of input.now) then mark_of input.now p else false) }
 {
-    let mut marked = zone;
     for i in 1..input.vars() + 1 {
         if input.marked(i) {
-            marked.set_mark(i);
+            zone.set_mark(i);
         }
     }
-    marked
 }

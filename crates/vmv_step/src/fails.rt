@@ -146,7 +146,7 @@ pub(crate) fn test_unproved(before: &Zone, test: ZoneTest) -> bool
     requires right { IsOperand (vars_of before.now) test.right }
     ensures { TellsTest test before.now result }
 {
-    !before.guard_normed(negation(test)).is_bottom()
+    before.allows(negation(test))
 }
 
 /// Whether the bound may be above the cap in the normal state.

@@ -22,7 +22,9 @@ pub use laws::{
     states_behind_turns_are_normal, step_is_monotone, step_keeps_points, steps_are_normal,
     turn_is_monotone, turn_keeps_points, turns_are_normal,
 };
-pub use passing::pass;
-pub use repeat::{again, head, leave, turn};
-pub use simple::{branch, step};
+pub use passing::{pass, pass_into};
+pub use repeat::{
+    again, again_in_place, head, head_in_place, leave, leave_in_place, turn, turn_in_place,
+};
+pub use simple::{branch, branch_in_place, step, step_in_place};
 pub use stepped::Stepped;

@@ -1,6 +1,7 @@
 ghost use Rattle.std.specs.Prelude.{◌≡◌, ◌≤◌};
-ghost use Rattle.vmv_zone.specs.Zone.{vars_of, NotBottom};
+ghost use Rattle.vmv_zone.specs.Zone.{vars_of, NotBottom, IsNormal};
 ghost use Rattle.vmv_step.specs.Zones.{IsVariable, IsInside};
+ghost use Rattle.vmv_step.specs.Steps.{stepped};
 ghost use Rattle.vmv_step.specs.Loops.{IsHead, IsTurn, IsAgain, IsLeft, IsForgotten, at_most};
 
 use crate::fails::bound_unproved;
@@ -20,14 +21,32 @@ pub fn head(repeat: &CodeRepeat, zone: Zone) -> Stepped
     requires bound { IsInside (vars_of zone) repeat.now.bound }
     ensures { IsHead repeat.now.index repeat.now.slot repeat.now.bound repeat.now.cap zone result }
 {
-    let bound = zone_operand(repeat.bound);
-    let before = zone.norm();
-    let capped = before.guard_normed(at_most(bound, ZoneOperand::Lit(repeat.cap)));
-    let copied = capped.assign_normed(repeat.slot.0, ZoneValue::Copy(bound));
+    let mut after = zone;
+    after.normalize();
+    let unproved = head_in_place(repeat, &mut after);
     Stepped {
-        zone: copied.assign_normed(repeat.index.0, ZoneValue::Copy(ZoneOperand::Lit(0))),
-        unproved: bound_unproved(&before, bound, repeat.cap),
+        zone: after,
+        unproved,
     }
+}
+
+/// The head of a loop, from a normal state, in place. Answers whether the bound isn't proved to be at most the cap.
+pub fn head_in_place(repeat: &CodeRepeat, zone: &mut Zone) -> bool
+    requires normal { IsNormal zone.old }
+    requires few { vars_of zone.old ≤ 16 }
+    requires index { IsVariable (vars_of zone.old) repeat.now.index }
+    requires slot { IsVariable (vars_of zone.old) repeat.now.slot }
+    requires bound { IsInside (vars_of zone.old) repeat.now.bound }
+    ensures head { IsHead repeat.now.index repeat.now.slot repeat.now.bound repeat.now.cap zone.old (stepped zone.new result) }
+    ensures normal { IsNormal zone.new }
+    ensures vars { vars_of zone.new ≡ vars_of zone.old }
+{
+    let bound = zone_operand(repeat.bound);
+    let unproved = bound_unproved(zone, bound, repeat.cap);
+    zone.hold(at_most(bound, ZoneOperand::Lit(repeat.cap)));
+    zone.store(repeat.slot.0, ZoneValue::Copy(bound));
+    zone.store(repeat.index.0, ZoneValue::Copy(ZoneOperand::Lit(0)));
+    unproved
 }
 
 /// The state in which a turn's body starts: the index is less than the bound.
@@ -36,13 +55,28 @@ pub fn turn(repeat: &CodeRepeat, zone: Zone) -> Zone
     requires slot { IsVariable (vars_of zone) repeat.now.slot }
     ensures { IsTurn repeat.now.index repeat.now.slot zone result }
 {
+    let mut after = zone;
+    after.normalize();
+    turn_in_place(repeat, &mut after);
+    after
+}
+
+/// The state in which a turn's body starts, from a normal state, in place.
+pub fn turn_in_place(repeat: &CodeRepeat, zone: &mut Zone)
+    requires normal { IsNormal zone.old }
+    requires index { IsVariable (vars_of zone.old) repeat.now.index }
+    requires slot { IsVariable (vars_of zone.old) repeat.now.slot }
+    ensures turn { IsTurn repeat.now.index repeat.now.slot zone.old zone.new }
+    ensures normal { IsNormal zone.new }
+    ensures vars { vars_of zone.new ≡ vars_of zone.old }
+{
     let index = ZoneOperand::Var(repeat.index.0);
     let slot = ZoneOperand::Var(repeat.slot.0);
-    zone.guard(ZoneTest {
+    zone.hold(ZoneTest {
         left: index,
         rel: ZoneRel::Less,
         right: slot,
-    })
+    });
 }
 
 /// The state behind a turn's body: the index is 1 more.
@@ -51,15 +85,30 @@ pub fn again(repeat: &CodeRepeat, zone: Zone) -> Zone
     requires index { IsVariable (vars_of zone) repeat.now.index }
     ensures { IsAgain repeat.now.index zone result }
 {
+    let mut after = zone;
+    after.normalize();
+    again_in_place(repeat, &mut after);
+    after
+}
+
+/// The state behind a turn's body, from a normal state, in place.
+pub fn again_in_place(repeat: &CodeRepeat, zone: &mut Zone)
+    requires normal { IsNormal zone.old }
+    requires few { vars_of zone.old ≤ 16 }
+    requires index { IsVariable (vars_of zone.old) repeat.now.index }
+    ensures again { IsAgain repeat.now.index zone.old zone.new }
+    ensures normal { IsNormal zone.new }
+    ensures vars { vars_of zone.new ≡ vars_of zone.old }
+{
     let index = repeat.index.0;
-    zone.assign(
+    zone.store(
         index,
         ZoneValue::Arith {
             op: ZoneOp::Add,
             left: ZoneOperand::Var(index),
             right: ZoneOperand::Lit(1),
         },
-    )
+    );
 }
 
 /// The state behind the loop: the bound was at most the index, and both slots may have any word.
@@ -68,24 +117,41 @@ pub fn leave(repeat: &CodeRepeat, zone: Zone) -> Zone
     requires slot { IsVariable (vars_of zone) repeat.now.slot }
     ensures { IsLeft repeat.now.index repeat.now.slot zone result }
 {
+    let mut after = zone;
+    after.normalize();
+    leave_in_place(repeat, &mut after);
+    after
+}
+
+/// The state behind the loop, from a normal state, in place.
+pub fn leave_in_place(repeat: &CodeRepeat, zone: &mut Zone)
+    requires normal { IsNormal zone.old }
+    requires index { IsVariable (vars_of zone.old) repeat.now.index }
+    requires slot { IsVariable (vars_of zone.old) repeat.now.slot }
+    ensures left { IsLeft repeat.now.index repeat.now.slot zone.old zone.new }
+    ensures normal { IsNormal zone.new }
+    ensures vars { vars_of zone.new ≡ vars_of zone.old }
+{
     let index = ZoneOperand::Var(repeat.index.0);
     let slot = ZoneOperand::Var(repeat.slot.0);
-    let last = zone.guard(at_most(slot, index));
-    if last.is_bottom() {
-        return last;
+    zone.hold(at_most(slot, index));
+    if zone.is_bottom() {
+        return;
     }
-    forgotten(repeat.index, repeat.slot, last)
+    forget(repeat.index, repeat.slot, zone);
 }
 
 /// The norm of the state with any words in both slots.
-fn forgotten(index: Slot, slot: Slot, zone: Zone) -> Zone
-    requires not_bottom { NotBottom zone }
-    requires index { IsVariable (vars_of zone) index }
-    requires slot { IsVariable (vars_of zone) slot }
-    ensures forgotten { IsForgotten index slot zone result }
-    ensures vars { vars_of result ≡ vars_of zone }
+fn forget(index: Slot, slot: Slot, zone: &mut Zone)
+    requires not_bottom { NotBottom zone.old }
+    requires index { IsVariable (vars_of zone.old) index }
+    requires slot { IsVariable (vars_of zone.old) slot }
+    ensures forgotten { IsForgotten index slot zone.old zone.new }
+    ensures vars { vars_of zone.new ≡ vars_of zone.old }
 {
-    zone.free(index.0).free(slot.0).norm()
+    zone.forget(index.0);
+    zone.forget(slot.0);
+    zone.normalize();
 }
 
 /// The test that the one operand is at most the other.

@@ -6,19 +6,19 @@ pub returns : goal.returns
 returns c =
     let up' = up_of _ _ c.is_bottom.ensures c.if-is_bottom.false in
     let vars = c.top-top.ensures.vars in
-    let bounds = c.with_bounds.ensures in
-    let marks = c.with_marks.ensures in
+    let bounds = c.set_bounds.ensures in
+    let marks = c.set_marks.ensures in
     record {
-      vars = c.norm.ensures.vars ∙ marks.vars ∙ bounds.vars ∙ vars;
+      vars = c.normalize.ensures.vars ∙ marks.vars ∙ bounds.vars ∙ vars;
       bottom = λ none. absurd (clash _ none up');
       entered = λ h. (
-        c.with_marks.result,
+        c.set_marks.new.zone,
         record {
           vars = marks.vars ∙ bounds.vars ∙ vars;
           not_bottom = marks.not_bottom;
           bounds = λ i j hi hj. marks.bounds i j ∙ bounds.bounds i j (omega arith) (omega arith);
           marks = λ i hi. marks.marks i;
         },
-        c.norm.ensures,
+        c.normalize.ensures,
       );
     }

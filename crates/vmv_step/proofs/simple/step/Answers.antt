@@ -2,4 +2,4 @@ use Rattle.vmv_step.proofs.Normed.{stepped_through}
 use Rattle.vmv_step.proofs.simple.step.Goals as goal
 
 pub returns : goal.returns
-returns c = stepped_through _ _ c.args.zone c.norm.result _ c.norm.ensures c.step_normed.ensures
+returns c = stepped_through _ _ c.args.zone c.normalize.new.self _ c.normalize.ensures c.step_in_place-unproved.ensures.stepped

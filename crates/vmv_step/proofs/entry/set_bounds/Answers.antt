@@ -1,10 +1,10 @@
 use Rattle.std.proofs.Common.{◌∙◌, ◌≡◌, ◌≢◌, arith, ⊎_elim}
 use Rattle.std.proofs.lemmas.Bool.{cases_eq}
-use Rattle.vmv_step.proofs.entry.with_bounds.Goals as goal
+use Rattle.vmv_step.proofs.entry.set_bounds.Goals as goal
 
 pub loop-i-preserved : goal.loop-i-preserved
 loop-i-preserved c =
-    let row = c.with_row-zone.ensures in
+    let row = c.set_row.ensures in
     let was = c.loop-i.invariant in
     let vars = was.vars in
     record {

@@ -1,7 +1,7 @@
 use Rattle.std.proofs.Common.{◌≡◌, ◌<◌, ◌≤◌, ℕ, false}
 use Rattle.vmv_zone.specs.Zone.{vars_of, NotBottom, bound_of, mark_of}
 use Rattle.vmv_step.specs.Enter.{entered_bound}
-use Rattle.vmv_step.proofs.entry.with_bounds.Given as goal
+use Rattle.vmv_step.proofs.entry.set_bounds.Given as goal
 
 abbrev pub invariant-loop-i : goal.invariant-loop-i
 invariant-loop-i l = record {

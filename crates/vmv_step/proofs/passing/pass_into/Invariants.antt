@@ -1,6 +1,6 @@
 use Rattle.std.proofs.Common.{◌≡◌, length, take}
 use Rattle.vmv_step.specs.Zones.{zone_args}
-use Rattle.vmv_step.proofs.passing.pass.Given as goal
+use Rattle.vmv_step.proofs.passing.pass_into.Given as goal
 
 abbrev pub invariant-loop-i : goal.invariant-loop-i
 invariant-loop-i l = record {
