@@ -53,22 +53,3 @@ pub no_more_both : (program : Resolution) (n : ℕ) (item : Item) (code : Code) 
 no_more_both program n item code a b is f g input one two =
     same_parts a b (sym f.named ∙ g.named) input (keeps_both code.vars a.keeps b.keeps f.over g.over one.keeps two.keeps) (reach_both a.result b.result one.result two.result)
     (sites_same program n n a.unproved b.unproved is f.sites g.sites one.sites two.sites)
-
--- a condition gives one result
-reach_once : (c : Cond) (a b : Reach) → IsReachOf c a → IsReachOf c b → a ≡ b
-reach_once c a b (inl h) (inl g) = h.1 ∙ sym g.1
-reach_once c a b (inl h) (inr g) = absurd (g.0 h.0)
-reach_once c a b (inr h) (inl g) = absurd (h.0 g.0)
-reach_once c a b (inr h) (inr g) = h.1 ∙ sym g.1
-
--- an instance has one row
-pub instance_once : (program : Resolution) (paths : List Path) (j : ℕ) (a b : Row) → IsResolution program → IsRowOf program paths j a → IsRowOf program paths j b → a ≡ b
-instance_once program paths j a b is f g =
-    let path : f.path ≡ g.path = some_same (sym f.path_is ∙ g.path_is) in
-    let range : f.range ≡ g.range = result_once paths g.path f.range g.range (subst (λ (p : Path). HasResult paths p f.range) path f.range_is) g.range_is in
-    let proc : f.path.proc.0 ≡ g.path.proc.0 = ap (λ (p : Path). p.proc.0) path in
-    same_parts a b (some_same (sym f.named ∙ (ap (slice_get (map name_of (procs_of program))) proc ∙ g.named))) (input_once paths g.path a.input b.input (subst (λ (p : Path). HasInput paths p a.input) path f.input) g.input)
-    (f.keeps ∙ (ap (λ (p : Path). p.keeps) path ∙ sym g.keeps)) (reach_once g.range a.result b.result (subst (λ (c : Cond). IsReachOf c a.result) range f.result) g.result)
-    (sites_same program f.path.proc.0 g.path.proc.0 a.unproved b.unproved is f.sites g.sites
-    (λ site c. let h = (f.listed site).0 c in (g.listed site).1 (h.0, subst (λ n. IsSiteOf program n h.0 site) proc h.1, h.2))
-    (λ site c. let h = (g.listed site).0 c in (f.listed site).1 (h.0, subst (λ n. IsSiteOf program n h.0 site) (sym proc) h.1, h.2)))

@@ -19,7 +19,7 @@ use Rattle.vmv_cert.specs.declared.row.Reach.TheVariants.{Bottom, Value}
 use Rattle.vmv_cert.specs.Tables.{Accepted, HasThresholds, Box, IsBoxState, IsRowAbove, IsEntry, IsBoxIn, ranges_of, Shows, Dead, Provable}
 use Rattle.vmv_check.proofs.Lists.{some_same, item_at}
 use Rattle.vmv_forward.specs.Least.{IsReachBelow, IsNoMore, IsRowFor, IsFirst, Visit, VisitsCalls, Visits, IsLeastTable}
-use Rattle.vmv_forward.proofs.Settled.{below_same}
+use Rattle.vmv_forward.proofs.States.{below_same}
 use Rattle.vmv_forward.proofs.Instances.{normal_norm}
 
 box_bound : (box : Box) (a b : Zone) → IsBoxState box a → IsBoxState box b → (i j : ℕ) → i ≤ length box → j ≤ length box → bound_of a i j ≡ bound_of b i j

@@ -13,7 +13,7 @@ use Rattle.vmv_snapshot.specs.Procs.{params_of}
 use Rattle.vmv_snapshot.specs.Tables.{body_sites}
 use Rattle.vmv_snapshot.specs.Resolution.{Resolution, tree_of, IsResolution}
 use Rattle.vmv_zone.specs.declared.zone.Zone.{Zone}
-use Rattle.vmv_zone.specs.Zone.{vars_of, IsBelow, IsNormal}
+use Rattle.vmv_zone.specs.Zone.{vars_of, IsNormal}
 use Rattle.vmv_zone.specs.Operand.{IsOperand}
 use Rattle.vmv_zone.specs.Read.{IsRangeOf}
 use Rattle.vmv_zone.proofs.MoreLaws.{range_mono}

@@ -1,6 +1,7 @@
 -- The calls that the walk of a row meets.
 use Rattle.std.proofs.Common.{◌≡◌, ◌⊎◌, inl, inr, ⊎_elim, ℕ, zero, suc, ◌+◌, Option, Some, None, List, [], ◌∷◌, ◌++◌, length, slice_get, refl, sym, ap, subst, arith, ◌∙◌}
 use Rattle.vmv_tree.specs.Tree.{Item}
+use Rattle.vmv_cond.specs.declared.cond.Cond.{Cond}
 use Rattle.vmv_snapshot.specs.declared.code.Code.{Code}
 use Rattle.vmv_snapshot.specs.declared.code.ProcId.{ProcId}
 use Rattle.vmv_snapshot.specs.Code.{Stmt, plain, help, branch, loop, Block, [], ◌⨾◌}
@@ -18,7 +19,7 @@ use Rattle.vmv_cert.specs.Walk.{goes, fails, Walk, IsMatch, AreAllowed, Walks, W
 use Rattle.vmv_cert.specs.Tables.{WalksBody}
 use Rattle.vmv_check.proofs.Lists.{some_same}
 use Rattle.vmv_pass.specs.Callees.{callees, block_callees}
-use Rattle.vmv_pass.specs.Source.{by_row}
+use Rattle.vmv_pass.specs.Source.{Source, by_row, Answers}
 use Rattle.vmv_pass.specs.Holds.{Holds, HoldsAll, HoldsRow}
 use Rattle.vmv_pass.proofs.Zips.{in_first, in_second, append_long}
 
@@ -198,43 +199,51 @@ append_cases (y ∷ xs) ys (suc i) x e =
     ⊎_elim (λ (h : slice_get xs i ≡ Some x). inl h)
     (λ (h : (j : ℕ) × (i ≡ length xs + j) × (slice_get ys j ≡ Some x)). inr (h.0, (let s = h.1 in omega arith), h.2)) (append_cases xs ys i x e)
 
-abbrev HasRows : Walk → ProcId → Zone → Type 0
-HasRows w callee args = ((row : Row) × IsMatch w callee.0 args row) × AreAllowed w callee.0 args
+-- a call that the walk meets is answered
+abbrev IsAnswered : Source → ℕ → ProcId → Zone → Type 0
+IsAnswered source c callee args = (cond : Cond) × Answers source c callee args cond
 
 mutual
-  stmt_rows : (w : Walk) (calls : List (Option Zone)) (k c : ℕ) (s : Stmt) (z e : Zone) (i : ℕ) (callee : ProcId) (args : Zone) → Holds (by_row w) calls k c s z e → slice_get (callees s) i ≡ Some callee → slice_get calls (c + i) ≡ Some (Some args) →
-      HasRows w callee args
-  stmt_rows w calls k c (plain simple) z e i callee args h at met = absurd (cc)
-  stmt_rows w calls k c (help to proc codes) z e zero callee args (inl (bottom, none, end)) at met =
+  stmt_answered : (source : Source) (calls : List (Option Zone)) (k c : ℕ) (s : Stmt) (z e : Zone) (i : ℕ) (callee : ProcId) (args : Zone) → Holds source calls k c s z e → slice_get (callees s) i ≡ Some callee → slice_get calls (c + i) ≡ Some (Some args) →
+      IsAnswered source (c + i) callee args
+  stmt_answered source calls k c (plain simple) z e i callee args h at met = absurd (cc)
+  stmt_answered source calls k c (help to proc codes) z e zero callee args (inl (bottom, none, end)) at met =
       let s : c + 0 ≡ c = omega arith in
       let bad : Some None ≡ Some (Some args) = sym none ∙ subst (λ j. slice_get calls j ≡ Some (Some args)) s met in
       none_some args (some_same bad)
-  stmt_rows w calls k c (help to proc codes) z e zero callee args (inr (some, (args', cond, is, met', (matched, returned, allowed), assigned))) at met =
+  stmt_answered source calls k c (help to proc codes) z e zero callee args (inr (some, (args', cond, is, met', answer, assigned))) at met =
       let s : c + 0 ≡ c = omega arith in
       let same : args' ≡ args = some_same (some_same (sym met' ∙ subst (λ j. slice_get calls j ≡ Some (Some args)) s met)) in
       let one : proc ≡ callee = some_same at in
-      subst (λ (x : Zone). HasRows w callee x) same (subst (λ (p : ProcId). HasRows w p args') one (matched, allowed))
-  stmt_rows w calls k c (help to proc codes) z e (suc i) callee args h at met = absurd (cc)
-  stmt_rows w calls k c (branch test first second) z e i callee args (z1, z2, e1, e2, is, one, two, join) at met =
+      subst (λ j. IsAnswered source j callee args) (sym s) (subst (λ (x : Zone). IsAnswered source c callee x) same (subst (λ (p : ProcId). IsAnswered source c p args') one (cond, answer)))
+  stmt_answered source calls k c (help to proc codes) z e (suc i) callee args h at met = absurd (cc)
+  stmt_answered source calls k c (branch test first second) z e i callee args (z1, z2, e1, e2, is, one, two, join) at met =
       let xs = block_callees first in
-      ⊎_elim (λ (h : slice_get xs i ≡ Some callee). block_rows w calls k c first z1 e1 i callee args one h met)
+      ⊎_elim (λ (h : slice_get xs i ≡ Some callee). block_answered source calls k c first z1 e1 i callee args one h met)
       (λ (h : (j : ℕ) × (i ≡ length xs + j) × (slice_get (block_callees second) j ≡ Some callee)).
       let s : c + i ≡ (c + length xs) + h.0 = (let t = h.1 in omega arith) in
-      block_rows w calls (k + block_loops first) (c + length xs) second z2 e2 h.0 callee args two h.2 (subst (λ j. slice_get calls j ≡ Some (Some args)) s met)) (append_cases xs (block_callees second) i callee at)
-  stmt_rows w calls k c (loop index slot bound most site body) z e i callee args (s, kept, normed, turned, end, again, is, there, listed, low, norm, turn, inside, more, low', leave) at met =
-      block_rows w calls (k + 1) c body turned end i callee args inside at met
+      subst (λ j. IsAnswered source j callee args) (sym s) (block_answered source calls (k + block_loops first) (c + length xs) second z2 e2 h.0 callee args two h.2 (subst (λ j. slice_get calls j ≡ Some (Some args)) s met)))
+      (append_cases xs (block_callees second) i callee at)
+  stmt_answered source calls k c (loop index slot bound most site body) z e i callee args (s, kept, normed, turned, end, again, is, there, listed, low, norm, turn, inside, more, low', leave) at met =
+      block_answered source calls (k + 1) c body turned end i callee args inside at met
 
-  block_rows : (w : Walk) (calls : List (Option Zone)) (k c : ℕ) (b : Block) (z e : Zone) (i : ℕ) (callee : ProcId) (args : Zone) → HoldsAll (by_row w) calls k c b z e → slice_get (block_callees b) i ≡ Some callee → slice_get calls (c + i) ≡ Some (Some args) →
-      HasRows w callee args
-  block_rows w calls k c [] z e i callee args h at met = absurd (cc)
-  block_rows w calls k c (s ⨾ rest) z e i callee args (x, one, two) at met =
+  block_answered : (source : Source) (calls : List (Option Zone)) (k c : ℕ) (b : Block) (z e : Zone) (i : ℕ) (callee : ProcId) (args : Zone) → HoldsAll source calls k c b z e → slice_get (block_callees b) i ≡ Some callee → slice_get calls (c + i) ≡ Some (Some args) →
+      IsAnswered source (c + i) callee args
+  block_answered source calls k c [] z e i callee args h at met = absurd (cc)
+  block_answered source calls k c (s ⨾ rest) z e i callee args (x, one, two) at met =
       let xs = callees s in
-      ⊎_elim (λ (h : slice_get xs i ≡ Some callee). stmt_rows w calls k c s z x i callee args one h met)
+      ⊎_elim (λ (h : slice_get xs i ≡ Some callee). stmt_answered source calls k c s z x i callee args one h met)
       (λ (h : (j : ℕ) × (i ≡ length xs + j) × (slice_get (block_callees rest) j ≡ Some callee)).
       let t : c + i ≡ (c + length xs) + h.0 = (let t = h.1 in omega arith) in
-      block_rows w calls (k + loops s) (c + length xs) rest x e h.0 callee args two h.2 (subst (λ j. slice_get calls j ≡ Some (Some args)) t met)) (append_cases xs (block_callees rest) i callee at)
+      subst (λ j. IsAnswered source j callee args) (sym t) (block_answered source calls (k + loops s) (c + length xs) rest x e h.0 callee args two h.2 (subst (λ j. slice_get calls j ≡ Some (Some args)) t met)))
+      (append_cases xs (block_callees rest) i callee at)
+
+pub call_answered : (source : Source) (item : Item) (code : Code) (e : Zone) (calls : List (Option Zone)) (c : ℕ) (callee : ProcId) (args : Zone) → HoldsRow source item code e calls → slice_get (block_callees (code_of code).block) c ≡ Some callee →
+    slice_get calls c ≡ Some (Some args) → (cond : Cond) × Answers source c callee args cond
+call_answered source item code e calls c callee args row at met =
+    let z : 0 + c ≡ c = omega arith in
+    subst (λ j. IsAnswered source j callee args) z (block_answered source calls 0 0 (code_of code).block row.start e c callee args row.holds at (subst (λ j. slice_get calls j ≡ Some (Some args)) (sym z) met))
 
 pub met_rows : (w : Walk) (item : Item) (code : Code) (e : Zone) (calls : List (Option Zone)) (c : ℕ) (callee : ProcId) (args : Zone) → HoldsRow (by_row w) item code e calls → slice_get (block_callees (code_of code).block) c ≡ Some callee →
-    slice_get calls c ≡ Some (Some args) → HasRows w callee args
-met_rows w item code e calls c callee args row at met =
-    block_rows w calls 0 0 (code_of code).block row.start e c callee args row.holds at (subst (λ j. slice_get calls j ≡ Some (Some args)) (let z : c ≡ 0 + c = omega arith in z) met)
+    slice_get calls c ≡ Some (Some args) → ((row : Row) × IsMatch w callee.0 args row) × AreAllowed w callee.0 args
+met_rows w item code e calls c callee args row at met = let a = call_answered (by_row w) item code e calls c callee args row at met in (a.1.0, a.1.2)

@@ -1,7 +1,6 @@
 -- A pass over what is below a walk that holds leaves it below.
-use Rattle.std.proofs.Common.{◌≡◌, inl, inr, ⊎_elim, ℕ, ◌+◌, ◌-◌, ◌≤◌, Bool, true, IsTrue, Option, Some, List, [], ◌++◌, length, map, slice_get, slice_set, refl, sym, ap, subst, arith, ◌∙◌, ℤ}
+use Rattle.std.proofs.Common.{◌≡◌, inl, inr, ⊎_elim, ℕ, ◌+◌, ◌-◌, ◌≤◌, Bool, true, IsTrue, Option, Some, List, [], ◌++◌, length, map, slice_get, slice_set, refl, sym, ap, subst, arith, ◌∙◌}
 use Rattle.std.specs.List.{All, AllZip}
-use Rattle.vmv_cond.specs.declared.cond.Cond.{Cond}
 use Rattle.vmv_snapshot.specs.declared.code.Slot.{Slot}
 use Rattle.vmv_snapshot.specs.declared.code.ProcId.{ProcId}
 use Rattle.vmv_snapshot.specs.declared.code.CodeOperand.{CodeOperand}
@@ -108,10 +107,10 @@ take_under vars sizes source calls c args top S S' under at' same size low (old,
 abbrev pub AreIn : List ProcId → ℕ → List ProcId → Type 0
 AreIn whole c xs = (i : ℕ) (callee : ProcId) → slice_get xs i ≡ Some callee → slice_get whole (c + i) ≡ Some callee
 
-in_one : (whole : List ProcId) (c : ℕ) (xs ys : List ProcId) → AreIn whole c (xs ++ ys) → AreIn whole c xs
+pub in_one : (whole : List ProcId) (c : ℕ) (xs ys : List ProcId) → AreIn whole c (xs ++ ys) → AreIn whole c xs
 in_one whole c xs ys are i callee at = are i callee (in_first xs ys i callee at)
 
-in_two : (whole : List ProcId) (c : ℕ) (xs ys : List ProcId) → AreIn whole c (xs ++ ys) → AreIn whole (c + length xs) ys
+pub in_two : (whole : List ProcId) (c : ℕ) (xs ys : List ProcId) → AreIn whole c (xs ++ ys) → AreIn whole (c + length xs) ys
 in_two whole c xs ys are i callee at =
     let s : c + (length xs + i) ≡ (c + length xs) + i = omega arith in
     subst (λ j. slice_get whole j ≡ Some callee) s (are (length xs + i) callee (in_second xs ys i callee at))
