@@ -2,55 +2,41 @@
 use Rattle.vmv_zone.proofs.Equal.{norm_once}
 use Rattle.vmv_cert.specs.Walk.{IsMatch}
 use Rattle.vmv_cert.specs.Tables.{Accepted}
-use Rattle.std.proofs.Common.{◌≡◌, inl, inr, ℕ, ◌+◌, ◌-◌, ◌≤◌, ℤ, true, Some, List, [], ◌∷◌, ◌++◌, length, map, slice_get, refl, sym, ap, subst, arith, ◌∙◌}
+use Rattle.std.proofs.Common.{◌≡◌, inl, inr, ℕ, ◌-◌, ◌≤◌, ℤ, true, Some, List, [], ◌∷◌, length, map, slice_get, refl, sym, ap, subst, arith, ◌∙◌}
 use Rattle.std.specs.List.{All, Contains}
-use Rattle.std.proofs.lemmas.List.Elements.{Contains-append_right}
 use Rattle.vmv_tree.specs.declared.site.NamedSite.{NamedSite}
 use Rattle.vmv_tree.specs.Run.{name_of}
 use Rattle.vmv_tree.specs.Tree.{Item}
 use Rattle.vmv_cond.specs.declared.cond.Cond.{Cond}
-use Rattle.vmv_cond.specs.Cond.{Holds as HoldsWord, IsSubset}
+use Rattle.vmv_cond.specs.Cond.{Holds as HoldsWord}
 use Rattle.vmv_snapshot.specs.declared.code.Code.{Code}
 use Rattle.vmv_snapshot.specs.declared.code.ProcId.{ProcId}
 use Rattle.vmv_snapshot.specs.View.{code_of}
-use Rattle.vmv_snapshot.specs.Procs.{params_of}
 use Rattle.vmv_snapshot.specs.Reaches.{Reaches}
 use Rattle.vmv_snapshot.specs.Resolution.{Resolution, IsResolution, procs_of, tree_of}
 use Rattle.vmv_snapshot.proofs.Links.{map_at}
 use Rattle.vmv_zone.specs.declared.zone.Zone.{Zone}
 use Rattle.vmv_zone.specs.Zone.{vars_of, NotBottom, IsBelow, IsNormOf}
-use Rattle.vmv_zone.specs.Read.{IsRangeOf}
-use Rattle.vmv_zone.proofs.MoreLaws.{range_mono}
-use Rattle.vmv_step.specs.Zones.{zone_operand, IsInside}
-use Rattle.vmv_step.specs.Enter.{declared_count}
-use Rattle.vmv_step.proofs.EnterPoints.{enter_mono, enter_normal}
-use Rattle.vmv_step.proofs.Procedures.{has_room}
 use Rattle.vmv_cert.specs.declared.row.Row.{Row}
 use Rattle.vmv_cert.specs.declared.row.Reach.{Reach}
-use Rattle.vmv_cert.specs.Sizes.{block_statements}
-use Rattle.vmv_cert.specs.Walk.{Way, goes, fails, Walk, GoesIf, Returns}
-use Rattle.vmv_cert.specs.Tables.{IsSiteOf, IsFormed, IsAbove, WalksBody, WalksRow, IsRefused}
+use Rattle.vmv_cert.specs.Walk.{Returns}
+use Rattle.vmv_cert.specs.Tables.{IsSiteOf, IsFormed, IsAbove}
 use Rattle.vmv_check.specs.Walker.{HasParams}
 use Rattle.vmv_check.proofs.Lists.{some_same, within}
 use Rattle.vmv_check.proofs.Above.{procs_once}
-use Rattle.vmv_check.proofs.Orders.{name_at}
-use Rattle.vmv_check.proofs.Codes.{code_ready}
 use Rattle.vmv_pass.specs.Callees.{block_callees}
-use Rattle.vmv_pass.specs.Upper.{IsProc}
 use Rattle.vmv_forward.specs.Path.{Path}
 use Rattle.vmv_forward.specs.Rounds.{Quest, HasInput, HasResult, stored_of, walk_of}
 use Rattle.vmv_forward.specs.Rows.{IsReachOf, IsRowOf}
-use Rattle.vmv_forward.proofs.Items.{are_whole}
-use Rattle.vmv_forward.proofs.Fair.{code_fair}
 use Rattle.vmv_forward.proofs.Reaching.{reaches_on}
-use Rattle.vmv_forward.proofs.Instances.{AreSolved, Known, known_at, known_as, input_once, result_once, CallOf, call_of, result_of, input_of, normal_norm}
+use Rattle.vmv_forward.proofs.Instances.{AreSolved, Known, known_as, input_once, result_once, CallOf, call_of, result_of, input_of, normal_norm}
 use Rattle.vmv_pass.specs.Source.{by_row, by_stored, Answers}
 use Rattle.vmv_pass.specs.Holds.{HoldsRow}
 use Rattle.vmv_pass.proofs.Telling.{Retells, row_retold}
 use Rattle.vmv_pass.proofs.Calls.{row_goes}
 use Rattle.vmv_pass.proofs.Bodies.{facts_of}
 use Rattle.vmv_forward.proofs.Low.{params_item}
-use Rattle.vmv_forward.proofs.Leastness.{IsAt, called_at}
+use Rattle.vmv_forward.proofs.Leastness.{IsAt}
 use Rattle.vmv_forward.proofs.Beside.{Own, own_walk, own_args, beside}
 
 -- the row is that of an instance, and each instance that it calls has a row, too

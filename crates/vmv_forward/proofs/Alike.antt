@@ -1,29 +1,24 @@
 -- Rows that say no more than one another are equal.
-use Rattle.std.proofs.Common.{◌≡◌, inl, inr, ℕ, List, map, slice_get, refl, sym, ap, subst, ◌∙◌}
+use Rattle.std.proofs.Common.{◌≡◌, ℕ, List, refl, sym, ap, ◌∙◌}
 use Rattle.std.specs.List.{All, AllZip}
 use Rattle.vmv_tree.specs.declared.name.Name.{Name}
 use Rattle.vmv_tree.specs.declared.site.NamedSite.{NamedSite}
-use Rattle.vmv_tree.specs.Run.{name_of}
 use Rattle.vmv_tree.specs.Tree.{Item}
 use Rattle.vmv_cond.specs.declared.cond.Cond.{Cond}
 use Rattle.vmv_cond.proofs.Same.{same_words}
 use Rattle.vmv_snapshot.specs.declared.code.Code.{Code}
-use Rattle.vmv_snapshot.specs.Resolution.{Resolution, IsResolution, procs_of}
+use Rattle.vmv_snapshot.specs.Resolution.{Resolution, IsResolution}
 use Rattle.vmv_zone.specs.declared.zone.Zone.{Zone}
 use Rattle.vmv_zone.specs.Zone.{vars_of, IsBelow}
 use Rattle.vmv_zone.proofs.Equal.{below_both}
 use Rattle.vmv_cert.specs.declared.row.Row.{Row}
 use Rattle.vmv_cert.specs.declared.row.Reach.{Reach}
 use Rattle.vmv_cert.specs.declared.row.Reach.TheVariants.{Bottom, Value}
-use Rattle.vmv_cert.specs.Tables.{IsFormed, IsSiteOf}
-use Rattle.vmv_check.proofs.Lists.{some_same, of_all}
-use Rattle.vmv_forward.specs.Path.{Path}
+use Rattle.vmv_cert.specs.Tables.{IsFormed}
+use Rattle.vmv_check.proofs.Lists.{of_all}
 use Rattle.vmv_forward.specs.Least.{IsReachBelow, IsNoMore}
-use Rattle.vmv_forward.specs.Rows.{IsReachOf, IsRowOf}
-use Rattle.vmv_forward.specs.Rounds.{HasInput, HasResult}
 use Rattle.vmv_forward.proofs.Items.{zips_same}
 use Rattle.vmv_forward.proofs.Sorted.{sites_same}
-use Rattle.vmv_forward.proofs.Instances.{input_once, result_once}
 
 abbrev row_with : Name → Zone → List Zone → Reach → List NamedSite → Row
 row_with proc input keeps result unproved = record { proc = proc; input = input; keeps = keeps; result = result; unproved = unproved }

@@ -1,10 +1,8 @@
 -- Settled instances are compared with one another: what is stored for one is below what is stored for each of its procedure
 -- whose input is above.
-use Rattle.std.proofs.Common.{◌≡◌, ℕ, ◌+◌, ◌-◌, ◌≤◌, true, Option, Some, None, List, [], ◌∷◌, length, map, slice_get, refl, sym, ap, subst, arith, ◌∙◌}
-use Rattle.std.specs.List.{All, AllZip, Contains}
+use Rattle.std.proofs.Common.{◌≡◌, ℕ, ◌+◌, ◌-◌, true, Option, Some, None, List, [], ◌∷◌, length, map, slice_get, refl, sym, ap, subst, arith, ◌∙◌}
 use Rattle.vmv_tree.specs.Tree.{Item}
 use Rattle.vmv_tree.specs.Run.{name_of}
-use Rattle.vmv_tree.specs.declared.site.NamedSite.{NamedSite}
 use Rattle.vmv_cond.specs.declared.cond.Cond.{Cond}
 use Rattle.vmv_cond.specs.Cond.{IsSubset}
 use Rattle.vmv_cond.proofs.Same.{same_words}
@@ -30,7 +28,7 @@ use Rattle.vmv_pass.specs.Upper.{IsProc, IsBelowCall, IsUnder}
 use Rattle.vmv_pass.proofs.Bodies.{facts_of}
 use Rattle.vmv_pass.proofs.Calls.{call_answered}
 use Rattle.vmv_forward.specs.Path.{Path}
-use Rattle.vmv_forward.specs.Rounds.{Quest, of_paths, AreLow, HasInput, HasResult, stored_of}
+use Rattle.vmv_forward.specs.Rounds.{Quest, of_paths, AreLow, stored_of}
 use Rattle.vmv_forward.specs.Rows.{Leads, IsFlagged, IsListed, IsReachOf, IsRowOf}
 use Rattle.vmv_forward.proofs.Items.{zip_at, beside_right}
 use Rattle.vmv_forward.proofs.CallSizes.{block_sized}

@@ -1,12 +1,11 @@
 -- Rows are laid, one instance after another.
-use Rattle.std.proofs.Common.{◌≡◌, ◌⊎◌, inl, inr, ⊎_elim, ℕ, zero, suc, ◌+◌, ◌<◌, ◌≤◌, Some, List, [], ◌∷◌, ◌++◌, length, slice_get, refl, sym, ap, subst, arith, ◌∙◌}
+use Rattle.std.proofs.Common.{◌≡◌, ◌⊎◌, inl, inr, ℕ, zero, suc, ◌+◌, ◌<◌, ◌≤◌, Some, List, [], ◌∷◌, ◌++◌, length, slice_get, refl, sym, ap, subst, arith, ◌∙◌}
 use Rattle.std.specs.List.{Contains}
-use Rattle.std.proofs.lemmas.Bool.{cases_lt}
 use Rattle.vmv_snapshot.specs.Resolution.{Resolution}
 use Rattle.vmv_zone.specs.declared.zone.Zone.{Zone}
 use Rattle.vmv_zone.specs.Zone.{IsBottom, NotBottom}
 use Rattle.vmv_cert.specs.declared.row.Row.{Row}
-use Rattle.vmv_check.proofs.Lists.{some_same, within, push_in, old_in, new_in}
+use Rattle.vmv_check.proofs.Lists.{some_same}
 use Rattle.vmv_forward.specs.Path.{Path}
 use Rattle.vmv_forward.specs.Least.{IsRowFor}
 use Rattle.vmv_forward.specs.Rounds.{Quest, AreKept, HasInput}

@@ -19,12 +19,11 @@ use Rattle.vmv_assumption.specs.Assumed.{Assumed}
 use Rattle.vmv_cert.specs.declared.row.Row.{Row}
 use Rattle.vmv_cert.specs.declared.row.Reach.{Reach}
 use Rattle.vmv_cert.specs.declared.row.Reach.TheVariants.{Bottom, Value}
-use Rattle.vmv_cert.specs.Walk.{goes, Walk, IsMatch}
-use Rattle.vmv_cert.specs.Tables.{IsFormed, IsAbove, WalksRow, Accepted, HasThresholds}
+use Rattle.vmv_cert.specs.Walk.{Walk, IsMatch}
+use Rattle.vmv_cert.specs.Tables.{IsFormed, IsAbove, Accepted, HasThresholds}
 use Rattle.vmv_thresholds.specs.Thresholds.{AreThresholds}
 use Rattle.vmv_check.specs.Walker.{HasParams}
 use Rattle.vmv_check.proofs.Lists.{some_same, within, item_at, all_of, of_all}
-use Rattle.vmv_check.proofs.Above.{procs_once}
 use Rattle.vmv_check.proofs.Orders.{name_at}
 use Rattle.vmv_check.proofs.Codes.{code_ready}
 use Rattle.vmv_pass.specs.Source.{by_row}

@@ -1,7 +1,7 @@
 -- The rows that are laid in order are the visits of the walks of the table itself, and the table is the least one.
-use Rattle.std.proofs.Common.{◌≡◌, inl, inr, ℕ, zero, suc, ◌+◌, ◌≤◌, Option, Some, None, List, [], ◌∷◌, ◌++◌, length, slice_get, refl, sym, ap, subst, arith, ◌∙◌}
+use Rattle.std.proofs.Common.{◌≡◌, inl, inr, ℕ, zero, suc, ◌≤◌, Option, Some, None, List, [], ◌∷◌, ◌++◌, length, slice_get, refl, sym, ap, subst, arith, ◌∙◌}
 use Rattle.std.specs.Prelude.{⊤}
-use Rattle.std.specs.List.{AllZip, Contains}
+use Rattle.std.specs.List.{Contains}
 use Rattle.std.proofs.lemmas.Slice.Zip.{AllZip-long}
 use Rattle.vmv_tree.specs.declared.ends.NameEnds.{NameEnds}
 use Rattle.vmv_snapshot.specs.declared.code.ProcId.{ProcId}
@@ -13,13 +13,13 @@ use Rattle.vmv_cert.specs.declared.row.Row.{Row}
 use Rattle.vmv_cert.specs.Tables.{Accepted, HasThresholds, Box, IsBoxState}
 use Rattle.vmv_thresholds.specs.Thresholds.{AreThresholds}
 use Rattle.vmv_check.specs.Walker.{HasParams}
-use Rattle.vmv_check.proofs.Lists.{some_same, new_in}
+use Rattle.vmv_check.proofs.Lists.{some_same}
 use Rattle.vmv_pass.specs.Callees.{block_callees}
 use Rattle.vmv_pass.specs.Upper.{IsProc}
 use Rattle.vmv_forward.specs.Path.{Path}
 use Rattle.vmv_forward.specs.Least.{IsRowFor, IsLeastTable, Visit, VisitsCalls, Visits}
 use Rattle.vmv_forward.specs.Rounds.{Quest, HasInput}
-use Rattle.vmv_forward.specs.Rows.{IsRowOf, Lay, LaysCalls, Lays}
+use Rattle.vmv_forward.specs.Rows.{Lay, LaysCalls, Lays}
 use Rattle.vmv_forward.proofs.Instances.{AreSolved, call_of}
 use Rattle.vmv_forward.proofs.Accepting.{IsTraced, AreTraced, IsWalked, row_at, row_walks, traced_accepted}
 use Rattle.vmv_forward.proofs.Beside.{own_call}
@@ -165,5 +165,7 @@ laid_least q paths table ends box boxed depth solved are lays is norm =
       norm = norm;
       depth = depth;
       visits = subst (λ n. Visits depth q.program q.assumed table n q.input [] table) entry.2 visits;
+      accepted = traced_accepted q paths table solved traced;
+      thresholds = laid_thresholds q paths ends depth table solved are lays;
       least = λ row among. (let t = traced row among in row_least q paths ends t.j row solved are t.is);
     }

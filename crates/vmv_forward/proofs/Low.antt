@@ -22,7 +22,7 @@ use Rattle.vmv_zone.specs.Zone.{vars_of, IsBelow, IsNormal}
 use Rattle.vmv_zone.proofs.States.{below_trans}
 use Rattle.vmv_assumption.specs.Assumed.{Assumed}
 use Rattle.vmv_cert.specs.declared.row.Row.{Row}
-use Rattle.vmv_cert.specs.Walk.{Walk, goes, fails, Returns}
+use Rattle.vmv_cert.specs.Walk.{goes, fails, Returns}
 use Rattle.vmv_cert.specs.Sizes.{block_loops}
 use Rattle.vmv_cert.specs.declared.row.Reach.{Reach}
 use Rattle.vmv_cert.specs.declared.row.Reach.TheVariants.{Bottom, Value}

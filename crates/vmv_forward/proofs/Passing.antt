@@ -9,7 +9,6 @@ use Rattle.vmv_snapshot.specs.Procs.{params_of}
 use Rattle.vmv_snapshot.specs.Resolution.{procs_of}
 use Rattle.vmv_zone.specs.declared.zone.Zone.{Zone}
 use Rattle.vmv_zone.specs.Zone.{vars_of}
-use Rattle.vmv_cert.specs.Walk.{Walk}
 use Rattle.vmv_cert.specs.Tables.{IsAbove}
 use Rattle.vmv_check.proofs.Lists.{some_same, within, at_place}
 use Rattle.vmv_pass.specs.Source.{Stored, Source, result_in}

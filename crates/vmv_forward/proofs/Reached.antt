@@ -8,13 +8,10 @@ use Rattle.vmv_zone.specs.declared.zone.Zone.{Zone}
 use Rattle.vmv_zone.specs.declared.operand.ZoneValue.TheVariants.{Within}
 use Rattle.vmv_zone.specs.Zone.{vars_of, NotBottom, IsNormal}
 use Rattle.vmv_zone.proofs.MoreLaws.{assign_normal}
-use Rattle.vmv_step.specs.Zones.{IsInside, AreInside}
 use Rattle.vmv_step.specs.Steps.{IsSimpleInside}
-use Rattle.vmv_step.proofs.Arguments.{pass_normal}
 use Rattle.vmv_step.proofs.StepOrder.{step_normal}
 use Rattle.vmv_cert.specs.Sizes.{loops, block_loops}
 use Rattle.vmv_check.specs.Walker.{IsReady, AreReady}
-use Rattle.vmv_check.proofs.Lists.{some_same}
 use Rattle.vmv_check.proofs.Walking.{assigned_vars}
 use Rattle.vmv_pass.specs.Callees.{callees, block_callees}
 use Rattle.vmv_pass.specs.Source.{Source, assumed_in, keeps_in}

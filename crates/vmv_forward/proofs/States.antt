@@ -3,7 +3,7 @@ use Rattle.std.proofs.Common.{◌≡◌, IsTrue, refl, sym, arith, ◌∙◌}
 use Rattle.std.proofs.lemmas.Int.{ints}
 use Rattle.vmv_snapshot.specs.declared.code.Slot.{Slot}
 use Rattle.vmv_zone.specs.declared.zone.Zone.{Zone}
-use Rattle.vmv_zone.specs.Zone.{vars_of, IsBottom, NotBottom, IsBelow, IsNormal, IsNormOf, IsJoin}
+use Rattle.vmv_zone.specs.Zone.{IsBottom, NotBottom, IsBelow, IsNormal, IsNormOf, IsJoin}
 use Rattle.vmv_zone.proofs.Equal.{by_truth, clash}
 use Rattle.vmv_zone.proofs.States.{below_trans}
 use Rattle.vmv_step.specs.Loops.{IsLeft}

@@ -244,10 +244,10 @@ same_visits program number ends assumed T U is one two (suc depth) (suc depth') 
     let v'' = subst (λ (os : List (Option Zone)). VisitsCalls W (block_callees (code_of code).block) os (seen ++ a ∷ []) out') (sym r.0) w' in
     same_calls V W T U (block_callees (code_of code).block) calls (seen ++ a ∷ []) out out' more more' (same_visits program number ends assumed T U is one two depth depth') r.1 v v'' sub sub'
 
-pub are_unique : (program : Resolution) (number : ℕ) (box : Box) (ends : List NameEnds) (assumed : Assumed) (rows other : List Row) → IsResolution program → Accepted program assumed rows → HasThresholds program number ends rows →
-    IsLeastTable program number box ends assumed rows → Accepted program assumed other → HasThresholds program number ends other → IsLeastTable program number box ends assumed other → rows ≡ other
-are_unique program number box ends assumed rows other is accepted has least accepted' has' least' =
+pub are_unique : (program : Resolution) (number : ℕ) (box : Box) (ends : List NameEnds) (assumed : Assumed) (rows other : List Row) → IsResolution program →
+    IsLeastTable program number box ends assumed rows → IsLeastTable program number box ends assumed other → rows ≡ other
+are_unique program number box ends assumed rows other is least least' =
     let same : least'.input ≡ least.input = boxed_once box least'.boxed least.boxed least'.input least.input least'.box_is least.box_is least'.norm least.norm in
     let moved = subst (λ (z : Zone). Visits least'.depth program assumed other number z [] other) same least'.visits in
-    same_visits program number ends assumed rows other is (record { accepted = accepted; thresholds = has; least = least.least }) (record { accepted = accepted'; thresholds = has'; least = least'.least }) least.depth least'.depth number least.input [] rows other
+    same_visits program number ends assumed rows other is (record { accepted = least.accepted; thresholds = least.thresholds; least = least.least }) (record { accepted = least'.accepted; thresholds = least'.thresholds; least = least'.least }) least.depth least'.depth number least.input [] rows other
     least.norm.normal least.visits moved (λ row c. c) (λ row c. c)
