@@ -1,48 +1,43 @@
--- The rows of settled instances are never refused.
-use Rattle.std.proofs.Common.{◌≡◌, inl, inr, ℕ, ◌+◌, ◌-◌, ◌≤◌, ℤ, true, Some, List, [], ◌∷◌, ◌++◌, length, map, slice_get, refl, sym, ap, subst, arith, ◌∙◌}
+-- The rows of settled instances walk: a call of an instance is answered by the rows as it is by what is stored.
+use Rattle.vmv_zone.proofs.Equal.{norm_once}
+use Rattle.vmv_cert.specs.Walk.{IsMatch}
+use Rattle.vmv_cert.specs.Tables.{Accepted}
+use Rattle.std.proofs.Common.{◌≡◌, inl, inr, ℕ, ◌-◌, ◌≤◌, ℤ, true, Some, List, [], ◌∷◌, length, map, slice_get, refl, sym, ap, subst, arith, ◌∙◌}
 use Rattle.std.specs.List.{All, Contains}
-use Rattle.std.proofs.lemmas.List.Elements.{Contains-append_right}
 use Rattle.vmv_tree.specs.declared.site.NamedSite.{NamedSite}
 use Rattle.vmv_tree.specs.Run.{name_of}
 use Rattle.vmv_tree.specs.Tree.{Item}
 use Rattle.vmv_cond.specs.declared.cond.Cond.{Cond}
-use Rattle.vmv_cond.specs.Cond.{Holds as HoldsWord, IsSubset}
+use Rattle.vmv_cond.specs.Cond.{Holds as HoldsWord}
 use Rattle.vmv_snapshot.specs.declared.code.Code.{Code}
 use Rattle.vmv_snapshot.specs.declared.code.ProcId.{ProcId}
 use Rattle.vmv_snapshot.specs.View.{code_of}
-use Rattle.vmv_snapshot.specs.Procs.{params_of}
 use Rattle.vmv_snapshot.specs.Reaches.{Reaches}
 use Rattle.vmv_snapshot.specs.Resolution.{Resolution, IsResolution, procs_of, tree_of}
 use Rattle.vmv_snapshot.proofs.Links.{map_at}
 use Rattle.vmv_zone.specs.declared.zone.Zone.{Zone}
 use Rattle.vmv_zone.specs.Zone.{vars_of, NotBottom, IsBelow, IsNormOf}
-use Rattle.vmv_zone.specs.Read.{IsRangeOf}
-use Rattle.vmv_zone.proofs.MoreLaws.{range_mono}
-use Rattle.vmv_step.specs.Zones.{zone_operand, IsInside}
-use Rattle.vmv_step.specs.Enter.{declared_count}
-use Rattle.vmv_step.proofs.EnterPoints.{enter_mono, enter_normal}
-use Rattle.vmv_step.proofs.Procedures.{has_room}
 use Rattle.vmv_cert.specs.declared.row.Row.{Row}
 use Rattle.vmv_cert.specs.declared.row.Reach.{Reach}
-use Rattle.vmv_cert.specs.Sizes.{block_statements}
-use Rattle.vmv_cert.specs.Walk.{Way, goes, fails, Walk, GoesIf, Returns}
-use Rattle.vmv_cert.specs.Tables.{IsSiteOf, IsFormed, IsAbove, WalksBody, WalksRow, IsRefused}
+use Rattle.vmv_cert.specs.Walk.{Returns}
+use Rattle.vmv_cert.specs.Tables.{IsSiteOf, IsFormed, IsAbove}
 use Rattle.vmv_check.specs.Walker.{HasParams}
 use Rattle.vmv_check.proofs.Lists.{some_same, within}
 use Rattle.vmv_check.proofs.Above.{procs_once}
-use Rattle.vmv_check.proofs.Orders.{name_at}
-use Rattle.vmv_check.proofs.Codes.{code_ready}
 use Rattle.vmv_pass.specs.Callees.{block_callees}
-use Rattle.vmv_pass.specs.Settles.{SettlesBody}
-use Rattle.vmv_pass.specs.Upper.{IsProc}
 use Rattle.vmv_forward.specs.Path.{Path}
 use Rattle.vmv_forward.specs.Rounds.{Quest, HasInput, HasResult, stored_of, walk_of}
-use Rattle.vmv_forward.specs.Rows.{IsReachOf, IsRowOf, AreRowsOf}
-use Rattle.vmv_forward.proofs.Items.{are_whole}
-use Rattle.vmv_forward.proofs.Fair.{code_fair}
+use Rattle.vmv_forward.specs.Rows.{IsReachOf, IsRowOf}
 use Rattle.vmv_forward.proofs.Reaching.{reaches_on}
-use Rattle.vmv_forward.proofs.Settled.{Answers, Meets, below_same, normal_floored, goes_or_fails, passes, behind, block_stays}
-use Rattle.vmv_forward.proofs.Instances.{AreSolved, Known, known_at, known_as, input_once, result_once, CallOf, call_of, result_of, input_of, normal_norm}
+use Rattle.vmv_forward.proofs.Instances.{AreSolved, Known, known_as, input_once, result_once, CallOf, call_of, result_of, input_of, normal_norm}
+use Rattle.vmv_pass.specs.Source.{by_row, by_stored, Answers}
+use Rattle.vmv_pass.specs.Holds.{HoldsRow}
+use Rattle.vmv_pass.proofs.Telling.{Retells, row_retold}
+use Rattle.vmv_pass.proofs.Calls.{row_goes}
+use Rattle.vmv_pass.proofs.Bodies.{facts_of}
+use Rattle.vmv_forward.proofs.Low.{params_item}
+use Rattle.vmv_forward.proofs.Leastness.{IsAt}
+use Rattle.vmv_forward.proofs.Beside.{Own, own_walk, own_args, beside}
 
 -- the row is that of an instance, and each instance that it calls has a row, too
 pub record IsTraced (program : Resolution) (paths : List Path) (rows : List Row) (row : Row) : Type 0 where
@@ -52,19 +47,6 @@ pub record IsTraced (program : Resolution) (paths : List Path) (rows : List Row)
 
 abbrev pub AreTraced : Resolution → List Path → List Row → Type 0
 AreTraced program paths rows = (row : Row) → Contains rows row → IsTraced program paths rows row
-
--- the rows of all instances are
-pub all_traced : (q : Quest) (paths : List Path) (rows : List Row) → AreSolved q paths → AreRowsOf q.program paths rows → AreTraced q.program paths rows
-all_traced q paths rows solved are row among =
-    let e = are.each row among in
-    record {
-      j = e.0;
-      is = e.1;
-      calls = λ c next input to there up.
-          (let k = known_at q paths e.0 e.1.path solved.kept e.1.one e.1.path_is in
-          let f = call_of q paths e.0 e.1.path k.0 k.1 c next input e.1.path_is k.2 to there in
-          are.all next f.to input f.one f.to_is f.has up);
-    }
 
 -- a procedure has one number
 number_once : (program : Resolution) (n m : ℕ) (row : Row) → IsResolution program → slice_get (map name_of (procs_of program)) n ≡ Some row.proc → slice_get (map name_of (procs_of program)) m ≡ Some row.proc → n ≡ m
@@ -76,12 +58,6 @@ named_item program n item row at named =
     let m = map_at name_of (procs_of program) n row.proc named in
     let same : item ≡ m.0 = some_same (sym at ∙ m.1) in
     ap name_of same ∙ m.2
-
-pub params_item : (program : Resolution) (n count : ℕ) (item : Item) → slice_get (procs_of program) n ≡ Some item → HasParams program n count → count ≡ length (params_of item)
-params_item program n count item at has =
-    let m = map_at (λ i. length (params_of i)) (procs_of program) n count has in
-    let same : m.0 ≡ item = some_same (sym m.1 ∙ at) in
-    sym m.2 ∙ ap (λ (i : Item). length (params_of i)) same
 
 -- the row of an instance is formed
 pub row_formed : (q : Quest) (paths : List Path) (j : ℕ) (row : Row) (is : IsRowOf q.program paths j row) (item : Item) (code : Code) → AreSolved q paths → Known q paths j is.path item code → IsFormed q.program row is.path.proc.0 item code
@@ -132,96 +108,98 @@ sites_on q paths j c next row is item code input callee solved known call to the
     let l = h.2 in
     (is.listed site).1 (h.0, record { item = s.item; place = s.place; named = s.named; from = s.from; to = s.to; reached = reached }, (c ∷ l.0, l.1, (is.path, next, input, is.path_is, to, there, up, l.2), l.3))
 
--- the row of an instance that is called answers the call
-call_answered : (q : Quest) (paths : List Path) (rows : List Row) (row : Row) (t : IsTraced q.program paths rows row) (item : Item) (code : Code) → AreSolved q paths → Known q paths t.j t.is.path item code →
-    (c : ℕ) (callee : ProcId) (input : Zone) (cond : Cond) → slice_get (block_callees (code_of code).block) c ≡ Some callee → slice_get t.is.path.inputs c ≡ Some input → NotBottom input → slice_get t.is.path.results c ≡ Some cond →
-    Answers (walk_of q rows row) callee.0 input cond
-call_answered q paths rows row t item code solved known c callee input cond called there up stored =
+-- a result's words are those that its condition holds
+held_returned : (range : Cond) (reach : Reach) (word : ℤ) → IsReachOf range reach → HoldsWord range word → Returns reach word
+held_returned range reach word (inl h) held = absurd (h.0 word held)
+held_returned range reach word (inr h) held = subst (λ (r : Reach). Returns r word) (sym h.1) held
+
+-- what is above a range is above a narrower one
+above_range : (range c : Cond) (reach : Reach) → IsReachOf range reach → c ≡ range → IsAbove reach c
+above_range range c reach (inl h) same = subst (λ (r : Reach). IsAbove r c) (sym h.1) (λ word held. h.0 word (subst (λ (d : Cond). HoldsWord d word) same held))
+above_range range c reach (inr h) same = subst (λ (r : Reach). IsAbove r c) (sym h.1) (λ word held. subst (λ (d : Cond). HoldsWord d word) same held)
+
+-- the instance of a row
+pub row_at : (program : Resolution) (paths : List Path) (j : ℕ) (row : Row) (is : IsRowOf program paths j row) → IsAt paths j is.path row.input is.range
+row_at program paths j row is = record { one = is.one; at = is.path_is; input_is = is.input; result_is = is.range_is }
+
+-- each row that matches the arguments of a call returns what is stored for the instance that is called
+match_returns : (q : Quest) (paths : List Path) (rows : List Row) (row other : Row) (next : ℕ) (to : Path) (callee : ProcId) (args : Zone) (cond : Cond) (word : ℤ) → AreSolved q paths → AreTraced q.program paths rows → IsAt paths next to args cond →
+    to.proc.0 ≡ callee.0 → IsMatch (walk_of q rows row) callee.0 args other → HoldsWord cond word → Returns other.result word
+match_returns q paths rows row other next to callee args cond word solved traced at proc m held =
+    let t = traced other m.one in
+    let input = input_of q paths t.j t.is.path other.input solved t.is.one t.is.path_is t.is.input in
+    let same : m.input ≡ other.input = norm_once other.input m.input other.input m.norm (normal_norm other.input input.normal) in
+    let number : to.proc.0 ≡ t.is.path.proc.0 = proc ∙ number_once q.program callee.0 t.is.path.proc.0 other solved.kept.resolution m.named t.is.named in
+    let i = row_at q.program paths t.j other t.is in
+    let own = own_walk q paths t.j t.is.path other.input t.is.range solved i in
+    let b = beside q paths next t.j to t.is.path args other.input cond t.is.range solved at i number (subst (λ (z : Zone). IsBelow args z) same m.above) own in
+    held_returned t.is.range other.result word t.is.result (b.1 word held)
+
+-- the walk of a row, and of the instance that it is of
+pub record IsWalked (q : Quest) (paths : List Path) (rows : List Row) (row : Row) (t : IsTraced q.program paths rows row) : Type 0 where
+  pub own : Own q paths t.is.path row.input t.is.range
+  pub known : Known q paths t.j t.is.path own.item own.code
+  pub formed : IsFormed q.program row t.is.path.proc.0 own.item own.code
+  pub holds : HoldsRow (by_row (walk_of q rows row)) own.item own.code own.end own.calls
+
+-- an answer by what is stored is one by the rows
+call_retold : (q : Quest) (paths : List Path) (rows : List Row) (row : Row) (t : IsTraced q.program paths rows row) (own : Own q paths t.is.path row.input t.is.range) → AreSolved q paths → AreTraced q.program paths rows →
+    Known q paths t.j t.is.path own.item own.code → (c : ℕ) (callee : ProcId) (args : Zone) (cond : Cond) → slice_get (block_callees (code_of own.code).block) c ≡ Some callee → slice_get own.calls c ≡ Some (Some args) →
+    Answers (by_stored row.input t.is.range (stored_of q.assumed t.is.path)) c callee args cond → Answers (by_row (walk_of q rows row)) c callee args cond
+call_retold q paths rows row t own solved traced known c callee args cond called met (given, there, under, stored) =
     let path = t.is.path in
+    let i = row_at q.program paths t.j row t.is in
+    let m = own_args q paths t.j path row.input t.is.range solved i own c callee args given called met there in
     let k = known.each c callee called in
-    let call = call_of q paths t.j path item code c k.number input t.is.path_is known k.number_is there in
-    let a = t.calls c k.number input k.number_is there up in
+    let call = call_of q paths t.j path own.item own.code c k.number given t.is.path_is known k.number_is there in
+    let a = t.calls c k.number given k.number_is there m.1 in
     let at = a.2 in
     let proc : call.callee ≡ callee = some_same (sym call.callee_is ∙ called) in
     let to : at.path ≡ call.to = some_same (sym at.path_is ∙ call.to_is) in
-    let number : at.path.proc.0 ≡ callee.0 = ap (λ (p : Path). p.proc.0) to ∙ (call.proc_is ∙ ap (λ (p : ProcId). p.0) proc) in
-    let same : a.0.input ≡ input = input_once paths call.to a.0.input input (subst (λ (p : Path). HasInput paths p a.0.input) to at.input) call.has in
-    let range : at.range ≡ cond = result_once paths call.to at.range cond (subst (λ (p : Path). HasResult paths p at.range) to at.range_is) (result_of paths t.j c path call.to cond t.is.path_is call.caller_is call.place_is stored) in
-    record {
-      row = a.0;
+    let to_proc : call.to.proc.0 ≡ callee.0 = call.proc_is ∙ ap (λ (p : ProcId). p.0) proc in
+    let number : at.path.proc.0 ≡ callee.0 = ap (λ (p : Path). p.proc.0) to ∙ to_proc in
+    let same : a.0.input ≡ given = input_once paths call.to a.0.input given (subst (λ (p : Path). HasInput paths p a.0.input) to at.input) call.has in
+    let has : HasResult paths call.to cond = result_of paths t.j c path call.to cond t.is.path_is call.caller_is call.place_is stored in
+    let range : at.range ≡ cond = result_once paths call.to at.range cond (subst (λ (p : Path). HasResult paths p at.range) to at.range_is) has in
+    let one : IsMatch (walk_of q rows row) callee.0 args a.0 = record {
       one = a.1;
       named = subst (λ n. slice_get (map name_of (procs_of q.program)) n ≡ Some a.0.proc) number at.named;
-      over = subst (λ (z : Zone). HasParams q.program callee.0 (vars_of z)) (sym same) (subst (λ (p : ProcId). HasParams q.program p.0 (vars_of input)) proc call.over);
-      norm = subst (λ (z : Zone). IsNormOf z input) (sym same) (normal_norm input call.normal);
-      returns = λ word returned. subst (λ (d : Cond). HoldsWord d word) range (returns_held at.range a.0.result word at.result returned);
-      sites = sites_on q paths t.j c k.number row t.is item code input a.0 solved known call k.number_is there up at;
+      over = subst (λ (z : Zone). HasParams q.program callee.0 (vars_of z)) (sym same) (subst (λ (p : ProcId). HasParams q.program p.0 (vars_of given)) proc call.over);
+      input = given;
+      norm = subst (λ (z : Zone). IsNormOf z given) (sym same) (normal_norm given call.normal);
+      above = under;
+    } in
+    let child : IsAt paths k.number call.to args cond = record { one = call.one; at = call.to_is; input_is = subst (λ (z : Zone). HasInput paths call.to z) (sym m.0) call.has; result_is = has } in (
+      (a.0, one),
+      λ word. (
+        λ held other n. match_returns q paths rows row other k.number call.to callee args cond word solved traced child to_proc n held,
+        λ all. subst (λ (d : Cond). HoldsWord d word) range (returns_held at.range a.0.result word at.result (all a.0 one)),
+      ),
+      λ site all. sites_on q paths t.j c k.number row t.is own.item own.code given a.0 solved known call k.number_is there m.1 at site (all a.0 one),
+    )
+
+pub row_walks : (q : Quest) (paths : List Path) (rows : List Row) (row : Row) (t : IsTraced q.program paths rows row) → AreSolved q paths → AreTraced q.program paths rows → IsWalked q paths rows row t
+row_walks q paths rows row t solved traced =
+    let path = t.is.path in
+    let own = own_walk q paths t.j path row.input t.is.range solved (row_at q.program paths t.j row t.is) in
+    let known = known_as q paths t.j path own.item own.code solved.kept t.is.one t.is.path_is own.proc in
+    let set : Retells (by_stored row.input t.is.range (stored_of q.assumed path)) (by_row (walk_of q rows row)) own.calls (block_callees (code_of own.code).block) = record {
+      assumed = refl;
+      keeps = sym t.is.keeps;
+      sites = λ n flag from told up. flag_listed q paths t.j row t.is own.item own.code known n from (told ∙ ap (λ b. Some b) up);
+      answers = call_retold q paths rows row t own solved traced known;
+    } in
+    record {
+      own = own;
+      known = known;
+      formed = row_formed q paths t.j row t.is own.item own.code solved known;
+      holds = row_retold (by_stored row.input t.is.range (stored_of q.assumed path)) (by_row (walk_of q rows row)) own.item own.code own.end own.calls set (facts_of q.program path.proc.0 own.item own.code solved.kept.resolution own.proc).known refl
+          (λ range told. above_range t.is.range range row.result t.is.result told) own.holds;
     }
 
-pub row_meets : (q : Quest) (paths : List Path) (rows : List Row) (row : Row) (t : IsTraced q.program paths rows row) (item : Item) (code : Code) → AreSolved q paths → Known q paths t.j t.is.path item code →
-    Meets (walk_of q rows row) (stored_of q.assumed t.is.path) code.vars (block_callees (code_of code).block)
-row_meets q paths rows row t item code solved known = record {
-  assumed = λ name word held. held;
-  keeps = t.is.keeps;
-  over = known.fits.over;
-  listed = flag_listed q paths t.j row t.is item code known;
-  answers = call_answered q paths rows row t item code solved known;
-}
-
--- what is above a range is above a narrower one
-above_range : (range c : Cond) (reach : Reach) → IsReachOf range reach → IsSubset c range → IsAbove reach c
-above_range range c reach (inl h) sub = subst (λ (r : Reach). IsAbove r c) (sym h.1) (λ word held. h.0 word (sub word held))
-above_range range c reach (inr h) sub = subst (λ (r : Reach). IsAbove r c) (sym h.1) sub
-
--- the return
-abbrev IsReturn : Walk → Code → Zone → Way → Type 0
-IsReturn w code e way = (c : Cond) × IsRangeOf e (zone_operand code.result) c × GoesIf (IsAbove w.row.result c) (block_statements (code_of code).block + 1) e way
-
-return_stays : (w : Walk) (vars : ℕ) (code : Code) (range : Cond) (e a : Zone) (way : Way) → IsInside vars code.result → e.vars ≡ vars → a.vars ≡ vars → IsBelow a e → IsRangeOf e (zone_operand code.result) range → IsReachOf range w.row.result →
-    IsReturn w code a way → way ≡ goes a
-return_stays w vars code range e a way inside ev av below read reach (c, x, h) =
-    let fewer : IsSubset c range = range_mono a e (zone_operand code.result) c range (av ∙ sym ev) (subst (λ k. IsInside k code.result) (sym ev) inside) x read below in
-    passes (IsAbove w.row.result c) (block_statements (code_of code).block + 1) a way (above_range range c w.row.result reach fewer) h
-
--- a way that goes on
-abbrev pub GoesOn : Way → Type 0
-GoesOn way = (z : Zone) × (way ≡ goes z)
-
-body_goes : (q : Quest) (paths : List Path) (rows : List Row) (row : Row) (t : IsTraced q.program paths rows row) (item : Item) (code : Code) (way : Way) → AreSolved q paths → Known q paths t.j t.is.path item code →
-    WalksBody (walk_of q rows row) item code way → GoesOn way
-body_goes q paths rows row t item code way solved known (start', end', x', h', rest') =
-    let is = solved.kept.resolution in
-    let w : Walk = walk_of q rows row in
-    let n = t.is.path.proc.0 in
-    let coded = is.resolves n code known.proc.code_is in
-    let ready = code_ready q.program n code item is coded known.proc.place in
-    let fair = code_fair q.program n code is known.proc.code_is in
-    let room = has_room (tree_of q.program) n (code_of code) item is.valid coded known.proc.place in
-    let fits = room.room in
-    let input = params_item q.program n row.input.vars item known.proc.place (input_of q paths t.j t.is.path row.input solved t.is.one t.is.path_is t.is.input).over in
-    let s : SettlesBody (stored_of q.assumed t.is.path) item code row.input t.is.range = solved.settled t.j t.is.one t.is.path row.input t.is.range item code t.is.path_is t.is.input t.is.range_is known.proc in
-    let lower : IsBelow start' s.start = enter_mono (length (params_of item)) (declared_count item) code.vars row.input row.input start' s.start input input (omega (arith, fits)) x' s.entered (below_same row.input) in
-    let normal = (enter_normal (length (params_of item)) (declared_count item) code.vars row.input start' x').0 in
-    let l = block_stays w (stored_of q.assumed t.is.path) code.vars (block_callees (code_of code).block) 1 0 0 (code_of code).block s.start start' s.end end' (row_meets q paths rows row t item code solved known) s.entered.vars x'.vars lower
-    (normal_floored start' normal) ready.block fair (are_whole (block_callees (code_of code).block)) s.settles h' in
-    (l.end, return_stays w code.vars code t.is.range s.end l.end way ready.output l.vars_are l.end_vars l.below s.read t.is.result (behind end' (IsReturn w code) l.end way l.is rest'))
-
--- each walk of a row goes on
-pub traced_goes : (q : Quest) (paths : List Path) (rows : List Row) (row : Row) (way : Way) → AreSolved q paths → IsTraced q.program paths rows row → WalksRow (walk_of q rows row) way → GoesOn way
-traced_goes q paths rows row way solved t (inl h) =
-    let k = known_at q paths t.j t.is.path solved.kept t.is.one t.is.path_is in
-    absurd (h.0 t.is.path.proc.0 k.0 k.1 (row_formed q paths t.j row t.is k.0 k.1 solved k.2))
-traced_goes q paths rows row way solved t (inr (n, item, code, f, body)) =
-    let same : n ≡ t.is.path.proc.0 = number_once q.program n t.is.path.proc.0 row solved.kept.resolution (name_at q.program n item row.proc f.place f.named) t.is.named in
-    let proc : IsProc q.program t.is.path.proc.0 item code = subst (λ m. IsProc q.program m item code) same (record { place = f.place; code_is = f.code_is }) in
-    body_goes q paths rows row t item code way solved (known_as q paths t.j t.is.path item code solved.kept t.is.one t.is.path_is proc) body
-
--- so such rows aren't refused
-pub traced_not_refused : (q : Quest) (paths : List Path) (rows : List Row) (number step : ℕ) → AreSolved q paths → AreTraced q.program paths rows → IsRefused q.program q.assumed rows number step → ⊥
-traced_not_refused q paths rows number step solved traced r =
-    let among : Contains (r.before ++ r.row ∷ r.after) r.row = Contains-append_right r.before (r.row ∷ r.after) r.row (0, omega arith, refl) in
-    let one : Contains rows r.row = subst (λ (xs : List Row). Contains xs r.row) (sym r.parts) among in
-    let g = traced_goes q paths rows r.row (fails step) solved (traced r.row one) r.failed in
-    goes_or_fails g.0 step (sym g.1)
-
-pub rows_not_refused : (q : Quest) (paths : List Path) (rows : List Row) (number step : ℕ) → AreSolved q paths → AreRowsOf q.program paths rows → IsRefused q.program q.assumed rows number step → ⊥
-rows_not_refused q paths rows number step solved are r = traced_not_refused q paths rows number step solved (all_traced q paths rows solved are) r
+-- a table of such rows is accepted
+pub traced_accepted : (q : Quest) (paths : List Path) (rows : List Row) → AreSolved q paths → AreTraced q.program paths rows → Accepted q.program q.assumed rows
+traced_accepted q paths rows solved traced row among =
+    let t = traced row among in
+    let w = row_walks q paths rows row t solved traced in
+    (w.own.end, inr (t.is.path.proc.0, w.own.item, w.own.code, w.formed, row_goes (walk_of q rows row) w.own.item w.own.code w.own.end w.own.calls w.holds))

@@ -1,29 +1,24 @@
 -- Rows that say no more than one another are equal.
-use Rattle.std.proofs.Common.{◌≡◌, inl, inr, ℕ, List, map, slice_get, refl, sym, ap, subst, ◌∙◌}
+use Rattle.std.proofs.Common.{◌≡◌, ℕ, List, refl, sym, ap, ◌∙◌}
 use Rattle.std.specs.List.{All, AllZip}
 use Rattle.vmv_tree.specs.declared.name.Name.{Name}
 use Rattle.vmv_tree.specs.declared.site.NamedSite.{NamedSite}
-use Rattle.vmv_tree.specs.Run.{name_of}
 use Rattle.vmv_tree.specs.Tree.{Item}
 use Rattle.vmv_cond.specs.declared.cond.Cond.{Cond}
 use Rattle.vmv_cond.proofs.Same.{same_words}
 use Rattle.vmv_snapshot.specs.declared.code.Code.{Code}
-use Rattle.vmv_snapshot.specs.Resolution.{Resolution, IsResolution, procs_of}
+use Rattle.vmv_snapshot.specs.Resolution.{Resolution, IsResolution}
 use Rattle.vmv_zone.specs.declared.zone.Zone.{Zone}
 use Rattle.vmv_zone.specs.Zone.{vars_of, IsBelow}
 use Rattle.vmv_zone.proofs.Equal.{below_both}
 use Rattle.vmv_cert.specs.declared.row.Row.{Row}
 use Rattle.vmv_cert.specs.declared.row.Reach.{Reach}
 use Rattle.vmv_cert.specs.declared.row.Reach.TheVariants.{Bottom, Value}
-use Rattle.vmv_cert.specs.Tables.{IsFormed, IsSiteOf}
-use Rattle.vmv_check.proofs.Lists.{some_same, of_all}
-use Rattle.vmv_forward.specs.Path.{Path}
+use Rattle.vmv_cert.specs.Tables.{IsFormed}
+use Rattle.vmv_check.proofs.Lists.{of_all}
 use Rattle.vmv_forward.specs.Least.{IsReachBelow, IsNoMore}
-use Rattle.vmv_forward.specs.Rows.{IsReachOf, IsRowOf}
-use Rattle.vmv_forward.specs.Rounds.{HasInput, HasResult}
 use Rattle.vmv_forward.proofs.Items.{zips_same}
 use Rattle.vmv_forward.proofs.Sorted.{sites_same}
-use Rattle.vmv_forward.proofs.Instances.{input_once, result_once}
 
 abbrev row_with : Name → Zone → List Zone → Reach → List NamedSite → Row
 row_with proc input keeps result unproved = record { proc = proc; input = input; keeps = keeps; result = result; unproved = unproved }
@@ -53,22 +48,3 @@ pub no_more_both : (program : Resolution) (n : ℕ) (item : Item) (code : Code) 
 no_more_both program n item code a b is f g input one two =
     same_parts a b (sym f.named ∙ g.named) input (keeps_both code.vars a.keeps b.keeps f.over g.over one.keeps two.keeps) (reach_both a.result b.result one.result two.result)
     (sites_same program n n a.unproved b.unproved is f.sites g.sites one.sites two.sites)
-
--- a condition gives one result
-reach_once : (c : Cond) (a b : Reach) → IsReachOf c a → IsReachOf c b → a ≡ b
-reach_once c a b (inl h) (inl g) = h.1 ∙ sym g.1
-reach_once c a b (inl h) (inr g) = absurd (g.0 h.0)
-reach_once c a b (inr h) (inl g) = absurd (h.0 g.0)
-reach_once c a b (inr h) (inr g) = h.1 ∙ sym g.1
-
--- an instance has one row
-pub instance_once : (program : Resolution) (paths : List Path) (j : ℕ) (a b : Row) → IsResolution program → IsRowOf program paths j a → IsRowOf program paths j b → a ≡ b
-instance_once program paths j a b is f g =
-    let path : f.path ≡ g.path = some_same (sym f.path_is ∙ g.path_is) in
-    let range : f.range ≡ g.range = result_once paths g.path f.range g.range (subst (λ (p : Path). HasResult paths p f.range) path f.range_is) g.range_is in
-    let proc : f.path.proc.0 ≡ g.path.proc.0 = ap (λ (p : Path). p.proc.0) path in
-    same_parts a b (some_same (sym f.named ∙ (ap (slice_get (map name_of (procs_of program))) proc ∙ g.named))) (input_once paths g.path a.input b.input (subst (λ (p : Path). HasInput paths p a.input) path f.input) g.input)
-    (f.keeps ∙ (ap (λ (p : Path). p.keeps) path ∙ sym g.keeps)) (reach_once g.range a.result b.result (subst (λ (c : Cond). IsReachOf c a.result) range f.result) g.result)
-    (sites_same program f.path.proc.0 g.path.proc.0 a.unproved b.unproved is f.sites g.sites
-    (λ site c. let h = (f.listed site).0 c in (g.listed site).1 (h.0, subst (λ n. IsSiteOf program n h.0 site) proc h.1, h.2))
-    (λ site c. let h = (g.listed site).0 c in (f.listed site).1 (h.0, subst (λ n. IsSiteOf program n h.0 site) (sym proc) h.1, h.2)))

@@ -1,7 +1,6 @@
 -- A box's state, one parameter after another.
 use Rattle.std.proofs.Common.{◌≡◌, inl, inr, ⊎_elim, ℕ, ◌+◌, ◌<◌, ◌≤◌, ℤ, pos, neg_ℤ, ◌-ℤ◌, Some, List, length, slice_get, get_or, sym, ap, subst, arith, ◌∙◌}
 use Rattle.std.specs.Prelude.{FitsSigned}
-use Rattle.std.specs.List.{All}
 use Rattle.std.specs.Int.{w64, w128}
 use Rattle.std.proofs.Common.{to_z, of_z}
 use Rattle.std.proofs.lemmas.Int.{ints, to_z-of_z}

@@ -8,7 +8,7 @@ use Rattle.vmv_zone.specs.declared.zone.Zone.{Zone}
 use Rattle.vmv_zone.specs.Zone.{vars_of}
 use Rattle.vmv_step.specs.Zones.{zone_operand}
 use Rattle.vmv_cert.specs.Sizes.{loops, block_loops}
-use Rattle.vmv_cert.specs.Walk.{Walk}
+use Rattle.vmv_pass.specs.Source.{Source}
 use Rattle.vmv_check.specs.Walker.{HasParams, IsReady, AreReady}
 use Rattle.vmv_pass.specs.Callees.{callees, block_callees}
 use Rattle.vmv_pass.specs.Holds.{Holds, HoldsAll}
@@ -44,21 +44,21 @@ none_sized : (program : Resolution) (calls : List (Option Zone)) (c : ℕ) → A
 none_sized program calls c i callee args at call = absurd (cc)
 
 mutual
-  stmt_sized : (w : Walk) (calls : List (Option Zone)) (vars k c : ℕ) (s : Stmt) (z e : Zone) → IsReady w.program vars s → Holds w calls k c s z e → AreSized w.program calls c (callees s)
-  stmt_sized w calls vars k c (plain simple) z e ready h = none_sized w.program calls c
-  stmt_sized w calls vars k c (help to callee codes) z e ready (inl h) = first_call w.program calls c callee (λ args call. no_state calls c args h.1 call)
-  stmt_sized w calls vars k c (help to callee codes) z e ready (inr (f, (given, cond, is, at, some, returned, given', allowed))) =
+  stmt_sized : (program : Resolution) (source : Source) (calls : List (Option Zone)) (vars k c : ℕ) (s : Stmt) (z e : Zone) → IsReady program vars s → Holds source calls k c s z e → AreSized program calls c (callees s)
+  stmt_sized program source calls vars k c (plain simple) z e ready h = none_sized program calls c
+  stmt_sized program source calls vars k c (help to callee codes) z e ready (inl h) = first_call program calls c callee (λ args call. no_state calls c args h.1 call)
+  stmt_sized program source calls vars k c (help to callee codes) z e ready (inr (f, (given, cond, is, at, answer, given'))) =
       let long = length-map codes zone_operand in
-      let sized : HasParams w.program callee.0 (vars_of given) = subst (λ n. HasParams w.program callee.0 n) (sym (is.vars ∙ long)) ready.1 in
-      first_call w.program calls c callee (λ args call. subst (λ (x : Zone). HasParams w.program callee.0 (vars_of x)) (one_state calls c given args at call) sized)
-  stmt_sized w calls vars k c (branch test first second) z e ready (z1, z2, e1, e2, x, h1, h2, join) =
-      sized_both w.program calls c (block_callees first) (block_callees second) (block_sized w calls vars k c first z1 e1 ready.1 h1)
-      (block_sized w calls vars (k + block_loops first) (c + length (block_callees first)) second z2 e2 ready.2 h2)
-  stmt_sized w calls vars k c (loop index slot bound most site body) z e ready (s, kept, normed, turned, end, again, x0, x1, x2, x3, x4, x5, h, x6, x7, x8) =
-      block_sized w calls vars (k + 1) c body turned end ready.3 h
+      let sized : HasParams program callee.0 (vars_of given) = subst (λ n. HasParams program callee.0 n) (sym (is.vars ∙ long)) ready.1 in
+      first_call program calls c callee (λ args call. subst (λ (x : Zone). HasParams program callee.0 (vars_of x)) (one_state calls c given args at call) sized)
+  stmt_sized program source calls vars k c (branch test first second) z e ready (z1, z2, e1, e2, x, h1, h2, join) =
+      sized_both program calls c (block_callees first) (block_callees second) (block_sized program source calls vars k c first z1 e1 ready.1 h1)
+      (block_sized program source calls vars (k + block_loops first) (c + length (block_callees first)) second z2 e2 ready.2 h2)
+  stmt_sized program source calls vars k c (loop index slot bound most site body) z e ready (s, kept, normed, turned, end, again, x0, x1, x2, x3, x4, x5, h, x6, x7, x8) =
+      block_sized program source calls vars (k + 1) c body turned end ready.3 h
 
-  pub block_sized : (w : Walk) (calls : List (Option Zone)) (vars k c : ℕ) (block : Block) (z e : Zone) → AreReady w.program vars block → HoldsAll w calls k c block z e → AreSized w.program calls c (block_callees block)
-  block_sized w calls vars k c [] z e ready h = none_sized w.program calls c
-  block_sized w calls vars k c (s ⨾ rest) z e ready (mid, x, h) =
-      sized_both w.program calls c (callees s) (block_callees rest) (stmt_sized w calls vars k c s z mid ready.0 x)
-      (block_sized w calls vars (k + loops s) (c + length (callees s)) rest mid e ready.1 h)
+  pub block_sized : (program : Resolution) (source : Source) (calls : List (Option Zone)) (vars k c : ℕ) (block : Block) (z e : Zone) → AreReady program vars block → HoldsAll source calls k c block z e → AreSized program calls c (block_callees block)
+  block_sized program source calls vars k c [] z e ready h = none_sized program calls c
+  block_sized program source calls vars k c (s ⨾ rest) z e ready (mid, x, h) =
+      sized_both program calls c (callees s) (block_callees rest) (stmt_sized program source calls vars k c s z mid ready.0 x)
+      (block_sized program source calls vars (k + loops s) (c + length (callees s)) rest mid e ready.1 h)

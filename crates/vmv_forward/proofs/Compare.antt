@@ -32,10 +32,10 @@ use Rattle.vmv_check.proofs.Lists.{some_same}
 use Rattle.vmv_check.proofs.Walking.{assigned_vars}
 use Rattle.vmv_pass.specs.Callees.{callees, block_callees}
 use Rattle.vmv_pass.specs.Holds.{Holds, HoldsAll}
-use Rattle.vmv_pass.specs.Settles.{Stored, Settles, SettlesAll}
+use Rattle.vmv_pass.specs.Source.{by_row}
 use Rattle.vmv_forward.proofs.Items.{AreIn, are_first, are_second, are_one, all_at, either_part}
 use Rattle.vmv_forward.proofs.Fair.{IsFair, AreFair}
-use Rattle.vmv_forward.proofs.Settled.{IsFloored, below_same, normal_floored, norm_up, join_floored, left_normal}
+use Rattle.vmv_forward.proofs.States.{IsFloored, below_same, normal_floored, norm_up, join_floored, left_normal}
 
 -- The walk of a statement from z to e over kept states, where R tells of a call's place, its arguments and the word that it
 -- returns.
@@ -55,28 +55,6 @@ abbrev mutual
   RunsAll A keeps R k c [] z e = e ≡ z
   RunsAll A keeps R k c (s ⨾ rest) z e = (m : Zone) × Runs A keeps R k c s z m × RunsAll A keeps R (k + loops s) (c + length (callees s)) rest m e
 
--- a call over what is stored
-pub record IsStoredCall (stored : Stored) (c : ℕ) (args : Zone) (cond : Cond) : Type 0 where
-  pub input : Zone
-  pub input_is : slice_get stored.inputs c ≡ Some input
-  pub below : IsBelow args input
-  pub result_is : slice_get stored.results c ≡ Some cond
-
-mutual
-  settled_runs : (stored : Stored) (k c : ℕ) (s : Stmt) (z e : Zone) → Settles stored k c s z e → Runs stored.assumed stored.keeps (IsStoredCall stored) k c s z e
-  settled_runs stored k c (plain simple) z e (s, x, told, end) = (s, x, end)
-  settled_runs stored k c (help to callee codes) z e (inl h) = inl h
-  settled_runs stored k c (help to callee codes) z e (inr (f, (args, input, cond, is, at, under, at', given))) =
-      inr (f, (args, cond, is, record { input = input; input_is = at; below = under; result_is = at' }, given))
-  settled_runs stored k c (branch test first second) z e (z1, z2, e1, e2, x, h1, h2, j) =
-      (z1, z2, e1, e2, x, settled_run stored k c first z1 e1 h1, settled_run stored (k + block_loops first) (c + length (block_callees first)) second z2 e2 h2, j)
-  settled_runs stored k c (loop index slot bound most site body) z e (s, kept, normed, turned, end, again, x0, x1, x2, x3, x4, x5, x6, x7, x8, x9) =
-      (kept, normed, turned, end, x1, x4, x5, settled_run stored (k + 1) c body turned end x6, x9)
-
-  pub settled_run : (stored : Stored) (k c : ℕ) (b : Block) (z e : Zone) → SettlesAll stored k c b z e → RunsAll stored.assumed stored.keeps (IsStoredCall stored) k c b z e
-  settled_run stored k c [] z e h = h
-  settled_run stored k c (s ⨾ rest) z e (m, h1, h2) = (m, settled_runs stored k c s z m h1, settled_run stored (k + loops s) (c + length (callees s)) rest m e h2)
-
 -- a call that a row's walk meets
 pub record IsMetCall (w : Walk) (whole : List ProcId) (calls : List (Option Zone)) (c : ℕ) (args : Zone) (cond : Cond) : Type 0 where
   pub met : slice_get calls c ≡ Some (Some args)
@@ -85,10 +63,10 @@ pub record IsMetCall (w : Walk) (whole : List ProcId) (calls : List (Option Zone
   pub returned : IsReturned w callee.0 args cond
 
 mutual
-  held_runs : (w : Walk) (whole : List ProcId) (calls : List (Option Zone)) (k c : ℕ) (s : Stmt) (z e : Zone) → AreIn whole c (callees s) → Holds w calls k c s z e → Runs w.assumed w.row.keeps (IsMetCall w whole calls) k c s z e
+  held_runs : (w : Walk) (whole : List ProcId) (calls : List (Option Zone)) (k c : ℕ) (s : Stmt) (z e : Zone) → AreIn whole c (callees s) → Holds (by_row w) calls k c s z e → Runs w.assumed w.row.keeps (IsMetCall w whole calls) k c s z e
   held_runs w whole calls k c (plain simple) z e are (s, x, allowed, end) = (s, x, end)
   held_runs w whole calls k c (help to callee codes) z e are (inl (bottom, none, end)) = inl (bottom, end)
-  held_runs w whole calls k c (help to callee codes) z e are (inr (up, (args, cond, is, met, match, returned, given, allowed))) =
+  held_runs w whole calls k c (help to callee codes) z e are (inr (up, (args, cond, is, met, (match, returned, allowed), given))) =
       inr (up, (args, cond, is, record { met = met; callee = callee; callee_is = are_one whole c callee are; returned = returned }, given))
   held_runs w whole calls k c (branch test first second) z e are (z1, z2, e1, e2, x, h1, h2, j) = (
     z1,
@@ -103,7 +81,7 @@ mutual
   held_runs w whole calls k c (loop index slot bound most site body) z e are (s, kept, normed, turned, end, again, x0, x1, x2, x3, x4, x5, x6, x7, x8, x9) =
       (kept, normed, turned, end, x1, x4, x5, held_run w whole calls (k + 1) c body turned end are x6, x9)
 
-  pub held_run : (w : Walk) (whole : List ProcId) (calls : List (Option Zone)) (k c : ℕ) (b : Block) (z e : Zone) → AreIn whole c (block_callees b) → HoldsAll w calls k c b z e → RunsAll w.assumed w.row.keeps (IsMetCall w whole calls) k c b z e
+  pub held_run : (w : Walk) (whole : List ProcId) (calls : List (Option Zone)) (k c : ℕ) (b : Block) (z e : Zone) → AreIn whole c (block_callees b) → HoldsAll (by_row w) calls k c b z e → RunsAll w.assumed w.row.keeps (IsMetCall w whole calls) k c b z e
   held_run w whole calls k c [] z e are h = h
   held_run w whole calls k c (s ⨾ rest) z e are (m, h1, h2) = (
     m,
@@ -192,7 +170,7 @@ plain_lower w calls vars whole A keeps R c simple z y e d s t set zv yv below in
 
 call_lower : (w : Walk) (calls : List (Option Zone)) (vars : ℕ) (whole : List ProcId) (A : Assumed) (keeps : List Zone) (R : ℕ → Zone → Cond → Type 0) (k c : ℕ) (to : Slot) (callee : ProcId) (codes : List CodeOperand) (z y e d : Zone) →
     Setting w calls vars whole A keeps R → z.vars ≡ vars → y.vars ≡ vars → IsBelow y z → IsFloored y → IsReady w.program vars (help to callee codes) → AreIn whole c (callee ∷ []) → Runs A keeps R k c (help to callee codes) z e →
-    Holds w calls k c (help to callee codes) y d → Lower w calls vars R c (callee ∷ []) e d
+    Holds (by_row w) calls k c (help to callee codes) y d → Lower w calls vars R c (callee ∷ []) e d
 call_lower w calls vars whole A keeps R k c to callee codes z y e d set zv yv below floored ready are (inl (none, end)) (inl (none', met, end')) = record {
   below = subst (λ (v : Zone). IsBelow d v) (sym end) (subst (λ (v : Zone). IsBelow v z) (sym end') below);
   vars_are = ap (λ (v : Zone). v.vars) end ∙ zv;
@@ -208,7 +186,7 @@ call_lower w calls vars whole A keeps R k c to callee codes z y e d set zv yv be
   floored = subst IsFloored (sym end') floored;
   calls_below = λ i helper args at has. absurd (only_none calls c i callee helper args at met has);
 }
-call_lower w calls vars whole A keeps R k c to callee codes z y e d set zv yv below floored ready are (inr (up, (args, cond, is, r, given))) (inr (up', (args', cond', is', met, match, returned, given', allowed))) =
+call_lower w calls vars whole A keeps R k c to callee codes z y e d set zv yv below floored ready are (inr (up, (args, cond, is, r, given))) (inr (up', (args', cond', is', met, (match, returned, allowed), given'))) =
     let inside = subst (λ v. AreInside v codes) (sym zv) ready.3 in
     let inside' = subst (λ v. AreInside v codes) (sym yv) ready.3 in
     let lower = pass_mono codes y z args' args (yv ∙ sym zv) inside is' is below in
@@ -227,7 +205,7 @@ call_lower w calls vars whole A keeps R k c to callee codes z y e d set zv yv be
 
 mutual
   stmt_lower : (w : Walk) (calls : List (Option Zone)) (vars : ℕ) (whole : List ProcId) (A : Assumed) (keeps : List Zone) (R : ℕ → Zone → Cond → Type 0) (k c : ℕ) (s : Stmt) (z y e d : Zone) → Setting w calls vars whole A keeps R →
-      z.vars ≡ vars → y.vars ≡ vars → IsBelow y z → IsFloored y → IsReady w.program vars s → IsFair s → AreIn whole c (callees s) → Runs A keeps R k c s z e → Holds w calls k c s y d → Lower w calls vars R c (callees s) e d
+      z.vars ≡ vars → y.vars ≡ vars → IsBelow y z → IsFloored y → IsReady w.program vars s → IsFair s → AreIn whole c (callees s) → Runs A keeps R k c s z e → Holds (by_row w) calls k c s y d → Lower w calls vars R c (callees s) e d
   stmt_lower w calls vars whole A keeps R k c (plain simple) z y e d set zv yv below floored ready fair are (s, x, end) (t, x', allowed, end') =
       plain_lower w calls vars whole A keeps R c simple z y e d s t set zv yv below ready fair x x' end end'
   stmt_lower w calls vars whole A keeps R k c (help to callee codes) z y e d set zv yv below floored ready fair are h g =
@@ -267,7 +245,7 @@ mutual
       }
 
   pub block_lower : (w : Walk) (calls : List (Option Zone)) (vars : ℕ) (whole : List ProcId) (A : Assumed) (keeps : List Zone) (R : ℕ → Zone → Cond → Type 0) (k c : ℕ) (b : Block) (z y e d : Zone) → Setting w calls vars whole A keeps R →
-      z.vars ≡ vars → y.vars ≡ vars → IsBelow y z → IsFloored y → AreReady w.program vars b → AreFair b → AreIn whole c (block_callees b) → RunsAll A keeps R k c b z e → HoldsAll w calls k c b y d → Lower w calls vars R c (block_callees b) e d
+      z.vars ≡ vars → y.vars ≡ vars → IsBelow y z → IsFloored y → AreReady w.program vars b → AreFair b → AreIn whole c (block_callees b) → RunsAll A keeps R k c b z e → HoldsAll (by_row w) calls k c b y d → Lower w calls vars R c (block_callees b) e d
   block_lower w calls vars whole A keeps R k c [] z y e d set zv yv below floored ready fair are h g = record {
     below = subst (λ (v : Zone). IsBelow d v) (sym h) (subst (λ (v : Zone). IsBelow v z) (sym g) below);
     vars_are = ap (λ (v : Zone). v.vars) h ∙ zv;

@@ -19,7 +19,7 @@ use Rattle.vmv_cert.specs.declared.row.Reach.TheVariants.{Bottom, Value}
 use Rattle.vmv_cert.specs.Tables.{Accepted, HasThresholds, Box, IsBoxState, IsRowAbove, IsEntry, IsBoxIn, ranges_of, Shows, Dead, Provable}
 use Rattle.vmv_check.proofs.Lists.{some_same, item_at}
 use Rattle.vmv_forward.specs.Least.{IsReachBelow, IsNoMore, IsRowFor, IsFirst, Visit, VisitsCalls, Visits, IsLeastTable}
-use Rattle.vmv_forward.proofs.Settled.{below_same}
+use Rattle.vmv_forward.proofs.States.{below_same}
 use Rattle.vmv_forward.proofs.Instances.{normal_norm}
 
 box_bound : (box : Box) (a b : Zone) → IsBoxState box a → IsBoxState box b → (i j : ℕ) → i ≤ length box → j ≤ length box → bound_of a i j ≡ bound_of b i j
@@ -146,12 +146,12 @@ only_bottom Bottom h = refl
 only_bottom (Value c) h = absurd h
 
 pub decides_death : (program : Resolution) (number : ℕ) (params : List Param) (box : Box) (ends : List NameEnds) (assumed : Assumed) (first : Row) (rest : List Row) → IsEntry program number params → IsBoxIn params box →
-    IsLeastTable program number box ends assumed (first ∷ rest) → Accepted program assumed (first ∷ rest) → HasThresholds program number ends (first ∷ rest) →
+    IsLeastTable program number box ends assumed (first ∷ rest) →
     (Dead program number box ends assumed → first.result ≡ Bottom) × (first.result ≡ Bottom → Dead program number box ends assumed)
-decides_death program number params box ends assumed first rest is in_box least accepted has = (
+decides_death program number params box ends assumed first rest is in_box least = (
   λ dead. let s = dead.3 in
       only_bottom first.result (subst (λ (r : Reach). IsReachBelow first.result r) s.6 (first_no_more program number box ends assumed first rest s.0 s.1 least s.2 s.3 s.4 s.5).result),
-  λ none. (params, is, in_box, (first ∷ rest, first, accepted, has, (0, omega arith, refl), first_above program number box ends assumed first rest least, none)),
+  λ none. (params, is, in_box, (first ∷ rest, first, least.accepted, least.thresholds, (0, omega arith, refl), first_above program number box ends assumed first rest least, none)),
 )
 
 same_params : (n m : Name) (ps qs : List Param) (b c : Body) → entry n ps b ≡ entry m qs c → ps ≡ qs
@@ -161,12 +161,12 @@ params_once : (program : Resolution) (n : ℕ) (ps qs : List Param) → IsEntry 
 params_once program n ps qs (name, body, at) (name', body', at') = same_params name name' ps qs body body' (some_same (sym at ∙ at'))
 
 pub decides_proof : (program : Resolution) (number : ℕ) (params : List Param) (ends : List NameEnds) (assumed : Assumed) (first : Row) (rest : List Row) (site : NamedSite) → IsEntry program number params →
-    IsLeastTable program number (ranges_of params) ends assumed (first ∷ rest) → Accepted program assumed (first ∷ rest) → HasThresholds program number ends (first ∷ rest) →
+    IsLeastTable program number (ranges_of params) ends assumed (first ∷ rest) →
     (Provable program number ends assumed site → Contains first.unproved site → ⊥) × ((Contains first.unproved site → ⊥) → Provable program number ends assumed site)
-decides_proof program number params ends assumed first rest site is least accepted has = (
+decides_proof program number params ends assumed first rest site is least = (
   λ provable listed.
       (let same : provable.0 ≡ params = params_once program number provable.0 params provable.1 is in
       let s = subst (λ (ps : List Param). Shows program number (ranges_of ps) ends assumed (λ row. Contains row.unproved site → ⊥)) same provable.2 in
       s.6 ((first_no_more program number (ranges_of params) ends assumed first rest s.0 s.1 least s.2 s.3 s.4 s.5).sites site listed)),
-  λ none. (params, is, (first ∷ rest, first, accepted, has, (0, omega arith, refl), first_above program number (ranges_of params) ends assumed first rest least, none)),
+  λ none. (params, is, (first ∷ rest, first, least.accepted, least.thresholds, (0, omega arith, refl), first_above program number (ranges_of params) ends assumed first rest least, none)),
 )

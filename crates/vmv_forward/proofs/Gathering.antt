@@ -1,49 +1,17 @@
--- Rows are gathered and laid, one instance after another.
-use Rattle.std.proofs.Common.{◌≡◌, ◌⊎◌, inl, inr, ⊎_elim, ℕ, zero, suc, ◌+◌, ◌<◌, ◌≤◌, Some, List, [], ◌∷◌, ◌++◌, length, slice_get, refl, sym, ap, subst, arith, ◌∙◌}
+-- Rows are laid, one instance after another.
+use Rattle.std.proofs.Common.{◌≡◌, ◌⊎◌, inl, inr, ℕ, zero, suc, ◌+◌, ◌<◌, ◌≤◌, Some, List, [], ◌∷◌, ◌++◌, length, slice_get, refl, sym, ap, subst, arith, ◌∙◌}
 use Rattle.std.specs.List.{Contains}
-use Rattle.std.proofs.lemmas.Bool.{cases_lt}
 use Rattle.vmv_snapshot.specs.Resolution.{Resolution}
 use Rattle.vmv_zone.specs.declared.zone.Zone.{Zone}
 use Rattle.vmv_zone.specs.Zone.{IsBottom, NotBottom}
 use Rattle.vmv_cert.specs.declared.row.Row.{Row}
-use Rattle.vmv_check.proofs.Lists.{some_same, within, push_in, old_in, new_in}
+use Rattle.vmv_check.proofs.Lists.{some_same}
 use Rattle.vmv_forward.specs.Path.{Path}
 use Rattle.vmv_forward.specs.Least.{IsRowFor}
 use Rattle.vmv_forward.specs.Rounds.{Quest, AreKept, HasInput}
-use Rattle.vmv_forward.specs.Rows.{IsRowOf, AreRowsOf, IsReached, Lay, LaysCalls, Lays}
+use Rattle.vmv_forward.specs.Rows.{IsRowOf, IsReached, Lay, LaysCalls, Lays}
 use Rattle.vmv_forward.proofs.Instances.{input_once}
 use Rattle.vmv_forward.proofs.Stepping.{as_many}
-
--- the rows of the reached ones of the first instances
-pub record Gathered (program : Resolution) (xs : List Path) (rows : List Row) (n : ℕ) : Type 0 where
-  pub each : (row : Row) → Contains rows row → (j : ℕ) × IsRowOf program xs j row
-  pub all : (j : ℕ) (path : Path) (input : Zone) → 1 ≤ j → j < n → slice_get xs j ≡ Some path → HasInput xs path input → NotBottom input → (row : Row) × Contains rows row × IsRowOf program xs j row
-
-none_in : (row : Row) (rows : List Row) → rows ≡ [] → Contains rows row → ⊥
-none_in row rows e c = (let d : Contains [] row = subst (λ (rs : List Row). Contains rs row) e c in let h = d.1 in absurd (omega (arith, h)))
-
-pub gather_start : (program : Resolution) (xs : List Path) (rows : List Row) → rows ≡ [] → Gathered program xs rows 1
-gather_start program xs rows e = record { each = λ row c. absurd (none_in row rows e c); all = λ j path input one few at has up. absurd (omega arith) }
-
-pub gather_more : (program : Resolution) (xs : List Path) (rows more : List Row) (row : Row) (n : ℕ) → more ≡ rows ++ row ∷ [] → IsRowOf program xs n row → Gathered program xs rows n → Gathered program xs more (n + 1)
-gather_more program xs rows more row n e is g = record {
-  each = λ r c.
-      ⊎_elim (λ (h : Contains rows r). g.each r h) (λ (h : row ≡ r). (n, subst (IsRowOf program xs n) h is)) (push_in rows row r (subst (λ (rs : List Row). Contains rs r) e c));
-  all = λ j path input one few at has up.
-      ⊎_elim (λ (h : j < n). (let r = g.all j path input one h at has up in (r.0, subst (λ (rs : List Row). Contains rs r.0) (sym e) (old_in rows row r.0 r.1), r.2)))
-      (λ (h : n ≤ j). (let same : n ≡ j = omega arith in (row, subst (λ (rs : List Row). Contains rs row) (sym e) (new_in rows row), subst (λ k. IsRowOf program xs k row) same is))) (cases_lt j n);
-}
-
-pub gather_skip : (program : Resolution) (xs : List Path) (rows more : List Row) (n : ℕ) → more ≡ rows → (IsReached xs n → ⊥) → Gathered program xs rows n → Gathered program xs more (n + 1)
-gather_skip program xs rows more n e never g = record {
-  each = λ r c. g.each r (subst (λ (rs : List Row). Contains rs r) e c);
-  all = λ j path input one few at has up.
-      ⊎_elim (λ (h : j < n). (let r = g.all j path input one h at has up in (r.0, subst (λ (rs : List Row). Contains rs r.0) (sym e) r.1, r.2)))
-      (λ (h : n ≤ j). (let same : j ≡ n = omega arith in absurd (never (path, input, subst (λ k. slice_get xs k ≡ Some path) same at, has, up)))) (cases_lt j n);
-}
-
-pub gather_end : (program : Resolution) (xs : List Path) (rows : List Row) (n : ℕ) → length xs ≤ n → Gathered program xs rows n → AreRowsOf program xs rows
-gather_end program xs rows n end g = record { each = g.each; all = λ j path input one at has up. (let h = within xs j path at in g.all j path input one (omega arith) at has up) }
 
 -- the first c calls are laid
 abbrev pub LaysUpto : Lay → ℕ → List ℕ → List Zone → List Row → List Row → Type 0

@@ -16,7 +16,7 @@ use Rattle.vmv_forward.specs.Path.{Path}
 use Rattle.vmv_forward.specs.Paths.{IsCallee}
 use Rattle.vmv_forward.specs.Rounds.{Quest, AreKept, IsSettled, HasInput, HasResult, stored_of}
 use Rattle.vmv_forward.proofs.Items.{zip_at, beside_left}
-use Rattle.vmv_forward.proofs.Settled.{below_same}
+use Rattle.vmv_forward.proofs.States.{below_same}
 
 -- the walks of all instances hold over what is stored
 pub record AreSolved (q : Quest) (paths : List Path) : Type 0 where

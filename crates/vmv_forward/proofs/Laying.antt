@@ -1,27 +1,23 @@
 -- The rows that are laid for instances in order: those of the instances that are reached, each with those that it calls.
 use Rattle.std.proofs.Common.{◌≡◌, ◌⊎◌, inl, inr, ⊎_elim, ℕ, zero, suc, Some, List, [], ◌∷◌, ◌++◌, map, slice_get, sym, ap, subst, arith, ◌∙◌}
 use Rattle.std.specs.List.{All, Contains}
-use Rattle.vmv_tree.specs.declared.name.Name.{Name}
 use Rattle.vmv_tree.specs.Run.{name_of}
 use Rattle.vmv_snapshot.specs.Resolution.{Resolution, procs_of, tree_of}
 use Rattle.vmv_zone.specs.declared.zone.Zone.{Zone}
-use Rattle.vmv_zone.specs.Zone.{NotBottom, IsBelow}
+use Rattle.vmv_zone.specs.Zone.{NotBottom}
 use Rattle.vmv_zone.specs.Round.{IsThresholdState}
 use Rattle.vmv_zone.proofs.Equal.{clash}
 use Rattle.vmv_cert.specs.declared.row.Row.{Row}
-use Rattle.vmv_cert.specs.Tables.{IsFormed, Accepted, IsRefused}
 use Rattle.vmv_check.proofs.Lists.{some_same, push_in, old_in, new_in}
 use Rattle.vmv_check.proofs.Above.{procs_once}
-use Rattle.vmv_pass.specs.Upper.{IsProc}
 use Rattle.vmv_forward.specs.Path.{Path}
-use Rattle.vmv_forward.specs.Least.{IsRowFor, IsNoMore}
-use Rattle.vmv_forward.specs.Rounds.{Quest, IsRival, HasInput}
-use Rattle.vmv_forward.specs.Rows.{IsRowOf, AreRowsOf, Lay, LaysCalls, Lays}
-use Rattle.vmv_forward.proofs.Settled.{below_same}
-use Rattle.vmv_forward.proofs.Instances.{AreSolved, known_at, known_as, input_once, call_of, input_of, normal_norm}
-use Rattle.vmv_forward.proofs.Accepting.{AreTraced, row_formed, traced_not_refused}
-use Rattle.vmv_forward.proofs.Alike.{no_more_both, instance_once}
-use Rattle.vmv_forward.proofs.Leastness.{row_no_more}
+use Rattle.vmv_forward.specs.Least.{IsRowFor}
+use Rattle.vmv_forward.specs.Rounds.{Quest}
+use Rattle.vmv_forward.specs.Rows.{IsRowOf, Lay, LaysCalls, Lays}
+use Rattle.vmv_forward.proofs.Instances.{AreSolved, known_at, call_of}
+use Rattle.vmv_forward.proofs.Accepting.{AreTraced}
+use Rattle.vmv_forward.proofs.Beside.{row_moved}
+use Rattle.vmv_forward.proofs.Leastness.{IsAt, called_at}
 
 -- rows that were there stay
 abbrev pub StaysIn : Lay → Type 0
@@ -135,67 +131,22 @@ row_states q paths j row solved is =
     let k = known_at q paths j is.path solved.kept is.one is.path_is in
     subst (λ ks. All (IsThresholdState q.thresholds) ks) (sym is.keeps) k.2.fits.thresholds
 
--- the table of all rows, accepted
-pub record IsWhole (q : Quest) (paths : List Path) (all : List Row) : Type 0 where
-  pub solved : AreSolved q paths
-  pub rows : AreRowsOf q.program paths all
-  pub accepted : Accepted q.program q.assumed all
-
-whole_rival : (q : Quest) (paths : List Path) (all : List Row) → IsWhole q paths all → IsRival q all
-whole_rival q paths all whole = record { accepted = whole.accepted; thresholds = λ row among. (let e = whole.rows.each row among in row_states q paths e.0 row whole.solved e.1) }
-
--- the row of an instance is one of them
-whole_has : (q : Quest) (paths : List Path) (all : List Row) (j : ℕ) (row : Row) → IsWhole q paths all → IsRowOf q.program paths j row → Contains all row
-whole_has q paths all j row whole is =
-    let r = whole.rows.all j is.path row.input is.one is.path_is is.input is.reached in
-    subst (Contains all) (instance_once q.program paths j r.0 row whole.solved.kept.resolution r.2 is) r.1
-
-no_more_than : (q : Quest) (paths : List Path) (all : List Row) (j k : ℕ) (a b : Row) → IsWhole q paths all → IsRowOf q.program paths j a → IsRowOf q.program paths k b → a.proc ≡ b.proc → a.input ≡ b.input → IsNoMore a b
-no_more_than q paths all j k a b whole f g name same =
-    let input = input_of q paths k g.path b.input whole.solved g.one g.path_is g.input in
-    row_no_more q paths all j a b whole.solved.kept (whole_rival q paths all whole) f
-    (record {
-      among = whole_has q paths all k b whole g;
-      named = f.named ∙ ap (λ (x : Name). Some x) name;
-      normed = b.input;
-      norm = normal_norm b.input input.normal;
-      above = subst (λ (z : Zone). IsBelow z b.input) (sym same) (below_same b.input);
-    })
-
--- the rows of instances of one procedure and input are equal
-pub rows_as_one : (q : Quest) (paths : List Path) (all : List Row) (j k : ℕ) (a b : Row) → IsWhole q paths all → IsRowOf q.program paths j a → IsRowOf q.program paths k b → a.proc ≡ b.proc → a.input ≡ b.input → a ≡ b
-rows_as_one q paths all j k a b whole f g name same =
-    let is = whole.solved.kept.resolution in
-    let number : f.path.proc.0 ≡ g.path.proc.0 = procs_once (tree_of q.program) is.valid f.path.proc.0 g.path.proc.0 b.proc (f.named ∙ ap (λ (x : Name). Some x) name) g.named in
-    let x = known_at q paths j f.path whole.solved.kept f.one f.path_is in
-    let proc : IsProc q.program g.path.proc.0 x.0 x.1 = subst (λ n. IsProc q.program n x.0 x.1) number x.2.proc in
-    let y = known_as q paths k g.path x.0 x.1 whole.solved.kept g.one g.path_is proc in
-    let one = row_formed q paths j a f x.0 x.1 whole.solved x.2 in
-    let two = row_formed q paths k b g x.0 x.1 whole.solved y in
-    no_more_both q.program g.path.proc.0 x.0 x.1 a b is (subst (λ n. IsFormed q.program a n x.0 x.1) number one) two same (no_more_than q paths all j k a b whole f g name same) (no_more_than q paths all k j b a whole g f (sym name) (sym same))
-
 -- where there is a row for each instance that is called, that is its row
-pub traced_calls : (q : Quest) (paths : List Path) (all rows : List Row) (j : ℕ) (row : Row) → IsWhole q paths all → ((r : Row) → Contains rows r → (k : ℕ) × IsRowOf q.program paths k r) → (is : IsRowOf q.program paths j row) →
+pub traced_calls : (q : Quest) (paths : List Path) (rows : List Row) (j : ℕ) (row : Row) → AreSolved q paths → ((r : Row) → Contains rows r → (k : ℕ) × IsRowOf q.program paths k r) → (is : IsRowOf q.program paths j row) →
     ((c next : ℕ) (input : Zone) (to : Path) → slice_get is.path.callees c ≡ Some next → slice_get is.path.inputs c ≡ Some input → NotBottom input → slice_get paths next ≡ Some to → HasRowFor q.program rows to input) → (c next : ℕ) (input : Zone) →
     slice_get is.path.callees c ≡ Some next → slice_get is.path.inputs c ≡ Some input → NotBottom input → (callee : Row) × Contains rows callee × IsRowOf q.program paths next callee
-traced_calls q paths all rows j row whole each is calls c next input to there up =
-    let k = known_at q paths j is.path whole.solved.kept is.one is.path_is in
+traced_calls q paths rows j row solved each is calls c next input to there up =
+    let k = known_at q paths j is.path solved.kept is.one is.path_is in
     let call = call_of q paths j is.path k.0 k.1 c next input is.path_is k.2 to there in
     let r = calls c next input call.to to there up call.to_is in
-    let s = whole.rows.all next call.to input call.one call.to_is call.has up in
     let e = each r.0 r.1 in
-    let at : s.2.path ≡ call.to = some_same (sym s.2.path_is ∙ call.to_is) in
-    let name : r.0.proc ≡ s.0.proc = some_same (sym r.2.named ∙ subst (λ (p : Path). slice_get (map name_of (procs_of q.program)) p.proc.0 ≡ Some s.0.proc) at s.2.named) in
-    let input' : s.0.input ≡ input = input_once paths call.to s.0.input input (subst (λ (p : Path). HasInput paths p s.0.input) at s.2.input) call.has in
-    let same : s.0 ≡ r.0 = sym (rows_as_one q paths all e.0 next r.0 s.0 whole e.1 s.2 name (r.2.input_is ∙ sym input')) in
-    (r.0, r.1, subst (IsRowOf q.program paths next) same s.2)
+    let number : call.to.proc.0 ≡ e.1.path.proc.0 = procs_once (tree_of q.program) solved.kept.resolution.valid call.to.proc.0 e.1.path.proc.0 r.0.proc r.2.named e.1.named in
+    let at = called_at q paths j is.path k.0 k.1 c next input k.2 is.path_is call to in
+    let i : IsAt paths next call.to r.0.input at.0 = subst (λ (z : Zone). IsAt paths next call.to z at.0) (sym r.2.input_is) at.1 in
+    (r.0, r.1, row_moved q paths e.0 next r.0 call.to at.0 solved e.1 i number)
 
 -- the rows that are laid from nothing are traced
-pub lays_traced : (q : Quest) (paths : List Path) (all rows : List Row) (depth j : ℕ) (input : Zone) → IsWhole q paths all → Lays depth q.program paths j input [] rows → AreTraced q.program paths rows
-lays_traced q paths all rows depth j input whole h row c =
+pub lays_traced : (q : Quest) (paths : List Path) (rows : List Row) (depth j : ℕ) (input : Zone) → AreSolved q paths → Lays depth q.program paths j input [] rows → AreTraced q.program paths rows
+lays_traced q paths rows depth j input solved h row c =
     let closed = all_closed depth q.program paths j input rows h row c in
-    record { j = closed.j; is = closed.is; calls = traced_calls q paths all rows closed.j row whole (λ r d. let e = all_closed depth q.program paths j input rows h r d in (e.j, e.is)) closed.is closed.calls }
-
--- so they aren't refused
-pub lays_not_refused : (q : Quest) (paths : List Path) (all rows : List Row) (depth j number step : ℕ) (input : Zone) → IsWhole q paths all → Lays depth q.program paths j input [] rows → IsRefused q.program q.assumed rows number step → ⊥
-lays_not_refused q paths all rows depth j number step input whole h r = traced_not_refused q paths rows number step whole.solved (lays_traced q paths all rows depth j input whole h) r
+    record { j = closed.j; is = closed.is; calls = traced_calls q paths rows closed.j row solved (λ r d. let e = all_closed depth q.program paths j input rows h r d in (e.j, e.is)) closed.is closed.calls }

@@ -1,5 +1,6 @@
 -- What is stored for instances, and the sites that their rows list, is below each accepted table of threshold states.
-use Rattle.std.proofs.Common.{◌≡◌, inl, inr, ℕ, ◌+◌, ◌-◌, ◌≤◌, true, Option, Some, None, List, [], ◌∷◌, map, slice_get, sym, ap, subst, arith, ◌∙◌}
+use Rattle.vmv_snapshot.specs.View.{code_of}
+use Rattle.std.proofs.Common.{◌≡◌, inl, inr, ℕ, ◌+◌, ◌-◌, ◌≤◌, true, Option, Some, None, List, [], ◌∷◌, map, slice_get, refl, sym, ap, subst, arith, ◌∙◌}
 use Rattle.std.specs.List.{All, AllZip, Contains}
 use Rattle.vmv_tree.specs.declared.name.Name.{Name}
 use Rattle.vmv_tree.specs.declared.ends.NameEnds.{NameEnds}
@@ -18,24 +19,25 @@ use Rattle.vmv_assumption.specs.Assumed.{Assumed}
 use Rattle.vmv_cert.specs.declared.row.Row.{Row}
 use Rattle.vmv_cert.specs.declared.row.Reach.{Reach}
 use Rattle.vmv_cert.specs.declared.row.Reach.TheVariants.{Bottom, Value}
-use Rattle.vmv_cert.specs.Walk.{goes, Walk, IsMatch}
-use Rattle.vmv_cert.specs.Tables.{IsFormed, IsAbove, WalksRow, Accepted, HasThresholds}
+use Rattle.vmv_cert.specs.Walk.{Walk, IsMatch}
+use Rattle.vmv_cert.specs.Tables.{IsFormed, IsAbove, Accepted, HasThresholds}
 use Rattle.vmv_thresholds.specs.Thresholds.{AreThresholds}
 use Rattle.vmv_check.specs.Walker.{HasParams}
 use Rattle.vmv_check.proofs.Lists.{some_same, within, item_at, all_of, of_all}
-use Rattle.vmv_check.proofs.Above.{procs_once}
 use Rattle.vmv_check.proofs.Orders.{name_at}
 use Rattle.vmv_check.proofs.Codes.{code_ready}
+use Rattle.vmv_pass.specs.Source.{by_row}
 use Rattle.vmv_pass.specs.Holds.{HoldsRow}
+use Rattle.vmv_pass.proofs.Calls.{row_calls, met_rows}
+use Rattle.vmv_forward.proofs.CallSizes.{block_sized}
+use Rattle.vmv_forward.proofs.Low.{accepted_goes, formed_at}
 use Rattle.vmv_pass.specs.Upper.{IsBelowCall, IsUnder}
 use Rattle.vmv_forward.specs.Path.{Path}
 use Rattle.vmv_forward.specs.Least.{IsReachBelow, IsNoMore, IsLeastRow}
-use Rattle.vmv_forward.specs.Rounds.{Quest, AreKept, IsRival, HasInput, HasResult, stored_of, walk_of}
+use Rattle.vmv_forward.specs.Rounds.{Quest, AreKept, AreAccepted, of_table, HasInput, HasResult, stored_of, walk_of}
 use Rattle.vmv_forward.specs.Rows.{Leads, IsFlagged, IsReachOf, IsRowOf}
 use Rattle.vmv_forward.proofs.Items.{zip_at, beside_right}
-use Rattle.vmv_forward.proofs.Settled.{goes_or_fails}
 use Rattle.vmv_forward.proofs.Instances.{AreSolved, Known, known_as, CallOf, call_of, result_of, input_of, normal_norm}
-use Rattle.vmv_forward.proofs.Meeting.{row_met, call_answered}
 
 -- the walk of a row of the procedure of this number holds
 pub record Holding (program : Resolution) (assumed : Assumed) (rows : List Row) (n : ℕ) (row : Row) : Type 0 where
@@ -44,20 +46,15 @@ pub record Holding (program : Resolution) (assumed : Assumed) (rows : List Row) 
   pub formed : IsFormed program row n item code
   pub end : Zone
   pub calls : List (Option Zone)
-  pub holds : HoldsRow (record { program = program; assumed = assumed; rows = rows; row = row }) item code end calls
-
-from_walk : (program : Resolution) (assumed : Assumed) (rows : List Row) (n : ℕ) (row : Row) (z : Zone) → IsResolution program → slice_get (map name_of (procs_of program)) n ≡ Some row.proc →
-    WalksRow (record { program = program; assumed = assumed; rows = rows; row = row }) (goes z) → Holding program assumed rows n row
-from_walk program assumed rows n row z is named (inl h) = goes_or_fails z 0 h.1
-from_walk program assumed rows n row z is named (inr (m, item, code, f, body)) =
-    let same : m ≡ n = procs_once (tree_of program) is.valid m n row.proc (name_at program m item row.proc f.place f.named) named in
-    let met = row_met (record { program = program; assumed = assumed; rows = rows; row = row }) item code z body in
-    record { item = item; code = code; formed = subst (λ k. IsFormed program row k item code) same f; end = z; calls = met.0; holds = met.1 }
+  pub holds : HoldsRow (by_row (record { program = program; assumed = assumed; rows = rows; row = row })) item code end calls
 
 -- of each row of an accepted table it does
 pub holding : (program : Resolution) (assumed : Assumed) (rows : List Row) (n : ℕ) (row : Row) → IsResolution program → Accepted program assumed rows → Contains rows row → slice_get (map name_of (procs_of program)) n ≡ Some row.proc →
     Holding program assumed rows n row
-holding program assumed rows n row is accepted among named = let p = accepted row among in from_walk program assumed rows n row p.0 is named p.1
+holding program assumed rows n row is accepted among named =
+    let g = accepted_goes program assumed rows row accepted among in
+    let met = row_calls (record { program = program; assumed = assumed; rows = rows; row = row }) g.item g.code g.end g.walks in
+    record { item = g.item; code = g.code; formed = formed_at program row g.number n g.item g.code is g.formed named; end = g.end; calls = met.0; holds = met.1 }
 
 -- instance j, its input and its result
 pub record IsAt (paths : List Path) (j : ℕ) (path : Path) (input : Zone) (result : Cond) : Type 0 where
@@ -74,10 +71,11 @@ pub record IsOver (program : Resolution) (rows : List Row) (path : Path) (input 
   pub norm : IsNormOf row.input normed
   pub above : IsBelow input normed
 
-pub instance_low : (q : Quest) (paths : List Path) (rows : List Row) (j : ℕ) (path : Path) (input : Zone) (result : Cond) (row : Row) → AreKept q paths → IsRival q rows → IsAt paths j path input result → IsOver q.program rows path input row →
-    (h : Holding q.program q.assumed rows path.proc.0 row) → IsUnder (walk_of q rows row) h.calls (stored_of q.assumed path) × IsAbove row.result result
+pub instance_low : (q : Quest) (paths : List Path) (rows : List Row) (j : ℕ) (path : Path) (input : Zone) (result : Cond) (row : Row) → AreKept q paths → AreAccepted q rows → IsAt paths j path input result → IsOver q.program rows path input row →
+    (h : Holding q.program q.assumed rows path.proc.0 row) → IsUnder (by_row (walk_of q rows row)) h.calls (stored_of q.assumed path) × IsAbove row.result result
 instance_low q paths rows j path input result row kept rival i o h =
-    kept.low rows rival j path input o.normed h.end result h.item h.code row h.calls i.one i.at i.input_is i.result_is o.among h.formed o.norm o.above h.holds
+    kept.low (of_table rows) rival j path input o.normed h.end result h.item h.code (by_row (walk_of q rows row)) h.calls i.one i.at i.input_is i.result_is (record { place = h.formed.place; code_is = h.formed.code_is })
+    (row, record { among = o.among; item = h.item; code = h.code; formed = h.formed; norm = o.norm }, refl) o.above h.holds
 
 same_site : (a b : NamedSite) → a.proc ≡ b.proc → a.index ≡ b.index → a ≡ b
 same_site a b p i =
@@ -85,7 +83,7 @@ same_site a b p i =
     ap (λ (x : Name). with x a.index) p ∙ ap (λ (x : ℕ). with b.proc x) i
 
 -- a call whose input isn't Bottom is met
-met_args : (calls : List (Option Zone)) (c : ℕ) (input : Zone) (o : Option Zone) → slice_get calls c ≡ Some o → NotBottom input → IsBelowCall input o → (args : Zone) × (slice_get calls c ≡ Some (Some args)) × IsBelow input args
+pub met_args : (calls : List (Option Zone)) (c : ℕ) (input : Zone) (o : Option Zone) → slice_get calls c ≡ Some o → NotBottom input → IsBelowCall input o → (args : Zone) × (slice_get calls c ≡ Some (Some args)) × IsBelow input args
 met_args calls c input None at up none = clash input.bottom none up
 met_args calls c input (Some args) at up below = (args, at, below)
 
@@ -104,7 +102,7 @@ match_vars : (w : Walk) (callee : ℕ) (args : Zone) (row : Row) (m : IsMatch w 
 match_vars w callee args row m over = some_same (sym over ∙ m.over) ∙ sym m.norm.vars
 
 -- a site that is flagged where calls lead is listed by each row above
-listed_below : (q : Quest) (paths : List Path) (rows : List Row) (places : List ℕ) (k proc : ℕ) (site : NamedSite) (j : ℕ) (path : Path) (input : Zone) (result : Cond) (row : Row) → AreKept q paths → IsRival q rows →
+listed_below : (q : Quest) (paths : List Path) (rows : List Row) (places : List ℕ) (k proc : ℕ) (site : NamedSite) (j : ℕ) (path : Path) (input : Zone) (result : Cond) (row : Row) → AreKept q paths → AreAccepted q rows →
     slice_get (map name_of (procs_of q.program)) proc ≡ Some site.proc → IsFlagged paths k proc site.index → IsAt paths j path input result → IsOver q.program rows path input row → Leads paths j places k → Contains row.unproved site
 listed_below q paths rows [] k proc site j path input result row kept rival named (other, there, proc_is, from, flag) i o same =
     let h = holding q.program q.assumed rows path.proc.0 row kept.resolution rival.accepted o.among o.named in
@@ -127,16 +125,18 @@ listed_below q paths rows (place ∷ places) k proc site j path input result row
     let coded = kept.resolution.resolves path.proc.0 h.code h.formed.code_is in
     let ready = code_ready q.program path.proc.0 h.code h.item kept.resolution coded h.formed.place in
     let w : Walk = walk_of q rows row in
-    let answered = call_answered w h.code.vars h.item h.code h.end h.calls place call.callee a.0 ready.block h.holds call.callee_is a.1 in
+    let answered = met_rows w h.item h.code h.end h.calls place call.callee a.0 h.holds call.callee_is a.1 in
+    let zero_on : place ≡ 0 + place = omega arith in
+    let sized = block_sized q.program (by_row w) h.calls h.code.vars 0 0 (code_of h.code).block h.holds.start h.end ready.block h.holds.holds place call.callee a.0 call.callee_is (subst (λ k. slice_get h.calls k ≡ Some (Some a.0)) zero_on a.1) in
     let at = called_at q paths j path h.item h.code place next input1 known i.at call to' in
-    answered.allowed site
+    answered.1 site
     (λ row2 m. listed_below q paths rows places k proc site next call.to input1 at.0 row2 kept rival named flagged at.1
     (record {
       among = m.one;
       named = subst (λ n. slice_get (map name_of (procs_of q.program)) n ≡ Some row2.proc) (sym call.proc_is) m.named;
       normed = m.input;
       norm = m.norm;
-      above = below_trans input1 a.0 m.input (match_vars w call.callee.0 a.0 row2 m answered.over) a.2 m.above;
+      above = below_trans input1 a.0 m.input (match_vars w call.callee.0 a.0 row2 m sized) a.2 m.above;
     }) leads)
 
 -- a result is below that of a row above
@@ -146,7 +146,7 @@ reach_under range low Bottom (inr h) above = absurd (h.0 above)
 reach_under range low (Value d) (inr h) above = subst (λ (r : Reach). IsReachBelow r (Value d)) (sym h.1) above
 
 -- the row of an instance says no more than each row above of such a table
-pub row_no_more : (q : Quest) (paths : List Path) (rows : List Row) (j : ℕ) (row other : Row) → AreKept q paths → IsRival q rows → (is : IsRowOf q.program paths j row) → IsOver q.program rows is.path row.input other → IsNoMore row other
+pub row_no_more : (q : Quest) (paths : List Path) (rows : List Row) (j : ℕ) (row other : Row) → AreKept q paths → AreAccepted q rows → (is : IsRowOf q.program paths j row) → IsOver q.program rows is.path row.input other → IsNoMore row other
 row_no_more q paths rows j row other kept rival is o =
     let h = holding q.program q.assumed rows is.path.proc.0 other kept.resolution rival.accepted o.among o.named in
     let i : IsAt paths j is.path row.input is.range = record { one = is.one; at = is.path_is; input_is = is.input; result_is = is.range_is } in
@@ -161,7 +161,7 @@ row_no_more q paths rows j row other kept rival is o =
     }
 
 -- the rows of an accepted table with the thresholds are threshold states
-pub rival_of : (q : Quest) (ends : List NameEnds) (rows : List Row) → AreThresholds (tree_of q.program) q.entry ends q.thresholds → Accepted q.program q.assumed rows → HasThresholds q.program q.entry ends rows → IsRival q rows
+pub rival_of : (q : Quest) (ends : List NameEnds) (rows : List Row) → AreThresholds (tree_of q.program) q.entry ends q.thresholds → Accepted q.program q.assumed rows → HasThresholds q.program q.entry ends rows → AreAccepted q rows
 rival_of q ends rows are accepted has = record {
   accepted = accepted;
   thresholds = λ row among. all_of (IsThresholdState q.thresholds) row.keeps (λ z kept up i j hi hj. (are.each (bound_of z i j)).1 (has row z among kept up i j hi hj));

@@ -1,6 +1,4 @@
 mod Fronts
-mod Below
-mod MetCalls
 mod Sets
 mod Visiting
 mod CallSizes
@@ -18,10 +16,9 @@ mod Boxing
 mod Items
 mod Fair
 mod Reaching
-mod Settled
+mod States
 mod Instances
 mod Accepting
-mod Meeting
 mod Compare
 mod Sorted
 mod Alike
@@ -34,8 +31,9 @@ mod Deciding
 mod Unique
 mod Stepping
 mod Gathering
-mod Tabling
 mod Siting
 mod BoxPoint
 mod Scaling
 mod Opening
+mod Reached
+mod Beside

@@ -1,6 +1,11 @@
 -- What is stored stays below every accepted table of threshold states.
-use Rattle.std.proofs.Common.{◌≡◌, inl, inr, ⊎_elim, ℕ, zero, suc, ◌+◌, ◌≤◌, Bool, true, Option, Some, List, [], ◌∷◌, length, map, slice_get, refl, sym, ap, subst, arith, ◌∙◌}
-use Rattle.std.specs.List.{AllZip, Contains}
+use Rattle.vmv_snapshot.proofs.Links.{map_at}
+use Rattle.vmv_cond.specs.Cond.{IsSubset, Holds as HoldsWord}
+use Rattle.vmv_assumption.specs.Within.{IsBelow as IsLess}
+use Rattle.vmv_zone.specs.Round.{IsThresholdState}
+use Rattle.vmv_forward.proofs.States.{below_same}
+use Rattle.std.proofs.Common.{◌≡◌, inl, inr, ⊎_elim, ℕ, zero, suc, ◌+◌, ◌≤◌, Bool, true, Option, Some, List, [], ◌∷◌, length, map, slice_get, refl, sym, ap, subst, arith, ◌∙◌, ℤ}
+use Rattle.std.specs.List.{All, AllZip, Contains}
 use Rattle.std.specs.Option.{option_map}
 use Rattle.std.proofs.lemmas.Option.{slice_get-map}
 use Rattle.std.proofs.lemmas.Bool.{cases_eq}
@@ -17,20 +22,24 @@ use Rattle.vmv_zone.specs.Zone.{vars_of, IsBelow, IsNormal}
 use Rattle.vmv_zone.proofs.States.{below_trans}
 use Rattle.vmv_assumption.specs.Assumed.{Assumed}
 use Rattle.vmv_cert.specs.declared.row.Row.{Row}
-use Rattle.vmv_cert.specs.Walk.{Walk, goes, fails}
+use Rattle.vmv_cert.specs.Walk.{goes, fails, Returns}
+use Rattle.vmv_cert.specs.Sizes.{block_loops}
+use Rattle.vmv_cert.specs.declared.row.Reach.{Reach}
+use Rattle.vmv_cert.specs.declared.row.Reach.TheVariants.{Bottom, Value}
 use Rattle.vmv_cert.specs.Tables.{IsFormed, IsAbove, WalksBody, WalksRow, Accepted}
 use Rattle.vmv_check.specs.Walker.{HasParams}
 use Rattle.vmv_check.proofs.Above.{procs_once}
 use Rattle.vmv_check.proofs.Orders.{name_at}
 use Rattle.vmv_check.proofs.Lists.{some_same, within, item_at}
 use Rattle.vmv_pass.specs.Callees.{block_callees}
+use Rattle.vmv_pass.specs.Source.{Source, by_row, by_stored, assumed_in, input_in, keeps_in, result_in, Answers}
 use Rattle.vmv_pass.specs.Holds.{HoldsRow}
 use Rattle.vmv_pass.specs.Upper.{IsProc, IsUnder, IsBelowCall, IsUpper, AreResultsUnder}
 use Rattle.vmv_pass.proofs.Calls.{row_calls}
 use Rattle.vmv_pass.proofs.Bodies.{facts_of}
 use Rattle.vmv_forward.specs.Path.{Path}
 use Rattle.vmv_forward.specs.Paths.{IsCallee, IsGrown}
-use Rattle.vmv_forward.specs.Rounds.{Quest, stored_of, walk_of, HasInput, HasResult, AreFit, AreKept, IsRival, AreLow}
+use Rattle.vmv_forward.specs.Rounds.{Quest, stored_of, walk_of, HasInput, HasResult, AreFit, AreKept, Rival, of_table, of_paths, IsRival, IsOf, AreLow}
 use Rattle.vmv_forward.proofs.Sets.{zip_at}
 use Rattle.vmv_forward.proofs.CallSizes.{block_sized}
 use Rattle.vmv_forward.proofs.Visiting.{Seen, back, new_at, input_before, result_before, range_is, grown_stays, fit_stays}
@@ -70,32 +79,6 @@ proc_of program row n item code f = record { place = f.place; code_is = f.code_i
 pub params_at : (program : Resolution) (row : Row) (n : ℕ) (item : Item) (code : Code) → IsFormed program row n item code → HasParams program n (vars_of row.input)
 params_at program row n item code f =
     slice_get-map (λ (x : Item). length (params_of x)) (procs_of program) n ∙ (ap (option_map (λ (x : Item). length (params_of x))) f.place ∙ ap (λ k. Some k) (sym f.input))
-
--- the results that are stored for the calls of an instance are below those of the rows that match
-pub results_under : (q : Quest) (xs : List Path) (j : ℕ) (path : Path) (rows : List Row) (row : Row) (item : Item) (code : Code) (end : Zone) (calls : List (Option Zone)) → IsResolution q.program → IsGrown q.program q.entry xs → 1 ≤ j →
-    slice_get xs j ≡ Some path → IsRival q rows → AreLow q xs rows → IsFormed q.program row path.proc.0 item code → HoldsRow (walk_of q rows row) item code end calls → AllZip IsBelowCall path.inputs calls →
-    AreResultsUnder (walk_of q rows row) (block_callees (code_of code).block) calls path.results
-results_under q xs j path rows row item code end calls is grown from at rival low formed holds inputs c callee args result other called call stored m =
-    let w = walk_of q rows row in
-    let link = grown.linked j path from at in
-    let proc = proc_of q.program row path.proc.0 item code formed in
-    let same : link.code ≡ code = (same_proc q.program path.proc.0 link.item item link.code code link.proc proc).1 in
-    let called' = subst (λ (x : Code). slice_get (block_callees (code_of x).block) c ≡ Some callee) (sym same) called in
-    let child = link.each c callee called' in
-    let z = zip_at IsBelowCall path.inputs calls c (Some args) inputs call in
-    let there : slice_get xs child.callee.caller ≡ Some path = subst (λ k. slice_get xs k ≡ Some path) (sym child.caller_is) at in
-    let has : HasInput xs child.callee z.0 = (path, there, subst (λ k. slice_get path.inputs k ≡ Some z.0) (sym child.place_is) z.1) in
-    let given : HasResult xs child.callee result = (path, there, subst (λ k. slice_get path.results k ≡ Some result) (sym child.place_is) stored) in
-    let goes = accepted_goes q.program q.assumed rows other rival.accepted m.one in
-    let named : slice_get (map name_of (procs_of q.program)) child.callee.proc.0 ≡ Some other.proc = subst (λ k. slice_get (map name_of (procs_of q.program)) k ≡ Some other.proc) (sym child.proc_is) m.named in
-    let formed' = formed_at q.program other goes.number child.callee.proc.0 goes.item goes.code is goes.formed named in
-    let meets = row_calls (walk_of q rows other) goes.item goes.code goes.end goes.walks in
-    let facts = facts_of q.program path.proc.0 item code is proc in
-    let sized : HasParams q.program callee.0 (vars_of args) = block_sized w calls code.vars 0 0 (code_of code).block holds.start end facts.ready holds.holds c callee args called (subst (λ k. slice_get calls k ≡ Some (Some args)) (let e : c ≡ 0 + c = omega arith in e) call) in
-    let vars : args.vars ≡ m.input.vars = some_same (sym sized ∙ m.over) ∙ sym m.norm.vars in
-    let below = below_trans z.0 args m.input vars z.2 m.above in
-    let h = low child.number child.callee z.0 m.input goes.end result goes.item goes.code other meets.0 (let l = child.later in omega arith) child.there has given m.one formed' m.norm below meets.1 in
-    h.1
 
 only_one : {X : Type 0} (x y : X) (n : ℕ) → slice_get (x ∷ []) n ≡ Some y → (n ≡ 0) × (x ≡ y)
 only_one x y zero e = (refl, some_same e)
@@ -156,60 +139,183 @@ result_there q xs i path grown fit one at =
     (r.0, (p.caller, p.there, r.1)))
     (cases_eq path.caller 0)
 
+pub params_item : (program : Resolution) (n count : ℕ) (item : Item) → slice_get (procs_of program) n ≡ Some item → HasParams program n count → count ≡ length (params_of item)
+params_item program n count item at has =
+    let m = map_at (λ i. length (params_of i)) (procs_of program) n count has in
+    let same : m.0 ≡ item = some_same (sym m.1 ∙ at) in
+    sym m.2 ∙ ap (λ (i : Item). length (params_of i)) same
+
+-- what is known of a rival's source: its states and its input
+pub record IsSourceAt (q : Quest) (n : ℕ) (item : Item) (code : Code) (top : Zone) (source : Source) : Type 0 where
+  pub assumed : assumed_in source ≡ q.assumed
+  pub keeps : length (keeps_in source) ≡ block_loops (code_of code).block
+  pub over : All (λ z. vars_of z ≡ code.vars) (keeps_in source)
+  pub thresholds : All (IsThresholdState q.thresholds) (keeps_in source)
+  pub params : vars_of (input_in source) ≡ length (params_of item)
+  pub vars : vars_of top ≡ length (params_of item)
+  pub under : IsBelow top (input_in source)
+
+pub source_at : (q : Quest) (rival : Rival) (n : ℕ) (item : Item) (code : Code) (top : Zone) (source : Source) → IsRival q rival → IsProc q.program n item code → IsOf q rival n top source → IsSourceAt q n item code top source
+source_at q (of_table rows) n item code top source rival proc (row, at, is) =
+    let same = same_proc q.program n at.item item at.code code (proc_of q.program row n at.item at.code at.formed) proc in
+    let formed : IsFormed q.program row n item code = subst (λ (i : Item). IsFormed q.program row n i code) same.0 (subst (λ (c : Code). IsFormed q.program row n at.item c) same.1 at.formed) in
+    subst (IsSourceAt q n item code top) (sym is) (record {
+      assumed = refl;
+      keeps = formed.keeps;
+      over = formed.over;
+      thresholds = rival.thresholds row at.among;
+      params = formed.input;
+      vars = at.norm.vars ∙ formed.input;
+      under = at.norm.below;
+    })
+source_at q (of_paths paths) n item code top source rival proc (range, path, at, is) =
+    let proc' : IsProc q.program path.proc.0 item code = subst (λ k. IsProc q.program k item code) (sym at.proc) proc in
+    let fits = rival.fit.each at.number path item code at.one at.at proc' in
+    let input = input_fits q paths at.number path top rival.grown rival.fit at.one at.at at.input in
+    let params = params_item q.program path.proc.0 (vars_of top) item proc'.place input.0 in
+    subst (IsSourceAt q n item code top) (sym is) (record {
+      assumed = refl;
+      keeps = fits.keeps;
+      over = fits.over;
+      thresholds = fits.thresholds;
+      params = params;
+      vars = params;
+      under = below_same top;
+    })
+
+returns_of : (r : Reach) (c : Cond) (word : ℤ) → IsAbove r c → HoldsWord c word → Returns r word
+returns_of Bottom c word above held = absurd (above word held)
+returns_of (Value d) c word above held = above word held
+
+-- the instance of a call, with an input below these arguments of the call of its procedure
+record IsChild (q : Quest) (xs : List Path) (callee : ProcId) (args : Zone) (result : Cond) : Type 0 where
+  number : ℕ
+  one : 1 ≤ number
+  to : Path
+  at : slice_get xs number ≡ Some to
+  proc : to.proc.0 ≡ callee.0
+  input : Zone
+  has : HasInput xs to input
+  given : HasResult xs to result
+  below : IsBelow input args
+  sized : HasParams q.program callee.0 (vars_of args)
+
+-- its result is below the rival's answer to such a call
+answer_above : (q : Quest) (xs : List Path) (rival : Rival) (n c : ℕ) (item : Item) (code : Code) (callee : ProcId) (args top : Zone) (result cond : Cond) (source : Source) → IsResolution q.program → IsRival q rival → AreLow q xs rival →
+    IsProc q.program n item code → slice_get (block_callees (code_of code).block) c ≡ Some callee → IsOf q rival n top source → Answers source c callee args cond → IsChild q xs callee args result → IsSubset result cond
+answer_above q xs (of_table rows) n c item code callee args top result cond source resolution rival low proc called (row, at, is) answer child word held =
+    let told : Answers (by_row (walk_of q rows row)) c callee args cond = subst (λ (s : Source). Answers s c callee args cond) is answer in
+    (told.1 word).1
+    (λ other m.
+    let goes = accepted_goes q.program q.assumed rows other rival.accepted m.one in
+    let named : slice_get (map name_of (procs_of q.program)) child.to.proc.0 ≡ Some other.proc = subst (λ k. slice_get (map name_of (procs_of q.program)) k ≡ Some other.proc) (sym child.proc) m.named in
+    let formed = formed_at q.program other goes.number child.to.proc.0 goes.item goes.code resolution goes.formed named in
+    let meets = row_calls (walk_of q rows other) goes.item goes.code goes.end goes.walks in
+    let vars : args.vars ≡ m.input.vars = some_same (sym child.sized ∙ m.over) ∙ sym m.norm.vars in
+    let h = low child.number child.to child.input m.input goes.end result goes.item goes.code (by_row (walk_of q rows other)) meets.0 child.one child.at child.has child.given (proc_of q.program other child.to.proc.0 goes.item goes.code formed)
+    (other, record { among = m.one; item = goes.item; code = goes.code; formed = formed; norm = m.norm }, refl) (below_trans child.input args m.input vars child.below m.above) meets.1 in
+    returns_of other.result result word h.1 held)
+answer_above q xs (of_paths paths) n c item code callee args top result cond source resolution rival low proc called (range, path, at, is) answer child word held =
+    let told : Answers (by_stored top range (stored_of q.assumed path)) c callee args cond = subst (λ (s : Source). Answers s c callee args cond) is answer in
+    let link = rival.grown.linked at.number path at.one at.at in
+    let proc' : IsProc q.program path.proc.0 item code = subst (λ k. IsProc q.program k item code) (sym at.proc) proc in
+    let same : code ≡ link.code = (same_proc q.program path.proc.0 item link.item code link.code proc' link.proc).1 in
+    let next = link.each c callee (subst (λ (x : Code). slice_get (block_callees (code_of x).block) c ≡ Some callee) same called) in
+    let there : slice_get paths next.callee.caller ≡ Some path = subst (λ k. slice_get paths k ≡ Some path) (sym next.caller_is) at.at in
+    let has : HasInput paths next.callee told.0 = (path, there, subst (λ k. slice_get path.inputs k ≡ Some told.0) (sym next.place_is) told.1) in
+    let given : HasResult paths next.callee cond = (path, there, subst (λ k. slice_get path.results k ≡ Some cond) (sym next.place_is) told.3) in
+    let one : 1 ≤ next.number = (let l = next.later in omega arith) in
+    let own = rival.grown.linked next.number next.callee one next.there in
+    let settled = rival.settled next.number one next.callee told.0 cond own.item own.code next.there has given own.proc in
+    let fits = input_fits q paths next.number next.callee told.0 rival.grown rival.fit one next.there has in
+    let over : HasParams q.program callee.0 (vars_of told.0) = subst (λ k. HasParams q.program k (vars_of told.0)) next.proc_is fits.0 in
+    let vars : args.vars ≡ told.0.vars = some_same (sym child.sized ∙ over) in
+    let to : next.callee.proc.0 ≡ child.to.proc.0 = next.proc_is ∙ sym child.proc in
+    let h = low child.number child.to child.input told.0 settled.0 result own.item own.code (by_stored told.0 cond (stored_of q.assumed next.callee)) settled.1 child.one child.at child.has child.given
+    (subst (λ k. IsProc q.program k own.item own.code) to own.proc) (cond, next.callee, record { number = next.number; one = one; at = next.there; proc = to; input = has; result = given }, refl)
+    (below_trans child.input args told.0 vars child.below told.2) settled.2 in
+    h.1 word held
+
+-- the results that are stored for the calls of an instance are below the answers of a rival's walk
+pub results_under : (q : Quest) (xs : List Path) (j : ℕ) (path : Path) (rival : Rival) (top end : Zone) (item : Item) (code : Code) (source : Source) (calls : List (Option Zone)) → IsResolution q.program → IsGrown q.program q.entry xs → 1 ≤ j →
+    slice_get xs j ≡ Some path → IsRival q rival → AreLow q xs rival → IsProc q.program path.proc.0 item code → IsOf q rival path.proc.0 top source → HoldsRow source item code end calls → AllZip IsBelowCall path.inputs calls →
+    AreResultsUnder source (block_callees (code_of code).block) calls path.results
+results_under q xs j path rival top end item code source calls is grown from at rival_is low proc of holds inputs c callee args result cond called call stored answer =
+    let link = grown.linked j path from at in
+    let same : code ≡ link.code = (same_proc q.program path.proc.0 item link.item code link.code proc link.proc).1 in
+    let child = link.each c callee (subst (λ (x : Code). slice_get (block_callees (code_of x).block) c ≡ Some callee) same called) in
+    let z = zip_at IsBelowCall path.inputs calls c (Some args) inputs call in
+    let there : slice_get xs child.callee.caller ≡ Some path = subst (λ k. slice_get xs k ≡ Some path) (sym child.caller_is) at in
+    let facts = facts_of q.program path.proc.0 item code is proc in
+    answer_above q xs rival path.proc.0 c item code callee args top result cond source is rival_is low proc called of answer
+    (record {
+      number = child.number;
+      one = (let l = child.later in omega arith);
+      to = child.callee;
+      at = child.there;
+      proc = child.proc_is;
+      input = z.0;
+      has = (path, there, subst (λ k. slice_get path.inputs k ≡ Some z.0) (sym child.place_is) z.1);
+      given = (path, there, subst (λ k. slice_get path.results k ≡ Some result) (sym child.place_is) stored);
+      below = z.2;
+      sized = block_sized q.program source calls code.vars 0 0 (code_of code).block holds.start end facts.ready holds.holds c callee args called (subst (λ k. slice_get calls k ≡ Some (Some args)) (let e : c ≡ 0 + c = omega arith in e) call);
+    })
+
 -- what is stored at the same loops, inputs and sites is below the same walks
-under_same : (w : Walk) (calls : List (Option Zone)) (assumed : Assumed) (path path' : Path) → path'.keeps ≡ path.keeps → path'.inputs ≡ path.inputs → path'.unproved ≡ path.unproved → IsUnder w calls (stored_of assumed path) →
-    IsUnder w calls (stored_of assumed path')
-under_same w calls assumed path path' keeps inputs unproved u =
+under_same : (source : Source) (calls : List (Option Zone)) (assumed : Assumed) (path path' : Path) → path'.keeps ≡ path.keeps → path'.inputs ≡ path.inputs → path'.unproved ≡ path.unproved → IsUnder source calls (stored_of assumed path) →
+    IsUnder source calls (stored_of assumed path')
+under_same source calls assumed path path' keeps inputs unproved u =
     record {
-      keeps = subst (λ (l : List Zone). AllZip IsBelow l w.row.keeps) (sym keeps) u.keeps;
+      keeps = subst (λ (l : List Zone). AllZip IsBelow l (keeps_in source)) (sym keeps) u.keeps;
       inputs = subst (λ (l : List Zone). AllZip IsBelowCall l calls) (sym inputs) u.inputs;
       unproved = λ i flag. u.unproved i (subst (λ (l : List Bool). slice_get l i ≡ Some true) unproved flag);
     }
 
-pub low_stays : (q : Quest) (xs : List Path) (j : ℕ) (raised : Bool) (s : ℕ) (ys : List Path) (s' : ℕ) (v : Seen q xs j raised s ys s') → 1 ≤ j → AreKept q xs → (rows : List Row) → IsRival q rows → AreLow q ys rows
-low_stays q xs j raised s ys s' v from kept rows rival i path' input normed end result item code row calls one at has given among formed norm below holds =
+pub low_stays : (q : Quest) (xs : List Path) (j : ℕ) (raised : Bool) (s : ℕ) (ys : List Path) (s' : ℕ) (v : Seen q xs j raised s ys s') → 1 ≤ j → AreKept q xs → (rival : Rival) → IsRival q rival → AreLow q ys rival
+low_stays q xs j raised s ys s' v from kept rival rival_is i path' input top end result item code source calls one at has given proc of below holds =
     let o = v.visited in
-    let w = walk_of q rows row in
     let b = back q xs j raised s ys s' v i path' at in
     let fit' = fit_stays q xs j raised s ys s' v from kept.fit in
     let grown' = grown_stays q xs j raised s ys s' v kept.grown in
     let fits = input_fits q ys i path' input grown' fit' one at has in
-    let over : HasParams q.program path'.proc.0 (vars_of row.input) = params_at q.program row path'.proc.0 item code formed in
-    let vars : input.vars ≡ normed.vars = some_same (sym fits.0 ∙ over) ∙ sym norm.vars in
+    let known = source_at q rival path'.proc.0 item code top source rival_is proc of in
+    let vars : input.vars ≡ top.vars = params_item q.program path'.proc.0 (vars_of input) item proc.place fits.0 ∙ sym known.vars in
     let before = input_before q xs j raised s ys s' v i b.0 path' input b.2 has in
-    let under = below_trans before.input input normed vars before.below below in
-    let formed' = subst (λ (n : ProcId). IsFormed q.program row n.0 item code) b.2.proc formed in
-    let low = kept.low rows rival in
+    let under = below_trans before.input input top vars before.below below in
+    let proc' : IsProc q.program b.0.proc.0 item code = subst (λ (n : ProcId). IsProc q.program n.0 item code) b.2.proc proc in
+    let of' : IsOf q rival b.0.proc.0 top source = subst (λ (n : ProcId). IsOf q rival n.0 top source) b.2.proc of in
+    let low = kept.low rival rival_is in
     ⊎_elim (λ (e : i ≡ j).
     let r = result_there q xs i b.0 kept.grown kept.fit one b.1 in
-    let h = low i b.0 before.input normed end r.0 item code row calls one b.1 before.has r.1 among formed' norm under holds in
+    let h = low i b.0 before.input top end r.0 item code source calls one b.1 before.has r.1 proc' of' under holds in
     let old : b.0 ≡ o.old = b.2.here e in
     let new : o.new ≡ path' = some_same (sym (subst (λ k. slice_get ys k ≡ Some o.new) (sym e) (new_at q xs j raised s ys s' v)) ∙ at) in
     let mine : HasInput xs o.old before.input = subst (λ (x : Path). HasInput xs x before.input) old before.has in
     let caller : mine.0 ≡ o.caller = some_same (sym mine.1 ∙ o.caller_is) in
     let taken : before.input ≡ o.input = some_same (sym (subst (λ (x : Path). slice_get x.inputs o.old.place ≡ Some before.input) caller mine.2) ∙ o.input_is) in
-    let formed_old = subst (λ (x : Path). IsFormed q.program row x.proc.0 item code) old formed' in
-    let under_old = subst (λ (x : Path). IsUnder w calls (stored_of q.assumed x)) old h.0 in
-    let results = results_under q xs j o.old rows row item code end calls kept.resolution kept.grown from o.old_is rival low formed_old holds under_old.inputs in
-    let up : IsUpper q.program o.old.proc.0 q.thresholds o.input (stored_of q.assumed o.old) w item code end calls = record {
-      same = refl;
-      assumed = λ name word held. held;
-      formed = formed_old;
-      thresholds = rival.thresholds row among;
-      normed = normed;
-      norm = norm;
-      above = subst (λ (z : Zone). IsBelow z normed) taken under;
+    let proc_old = subst (λ (x : Path). IsProc q.program x.proc.0 item code) old proc' in
+    let of_old = subst (λ (x : Path). IsOf q rival x.proc.0 top source) old of' in
+    let under_old = subst (λ (x : Path). IsUnder source calls (stored_of q.assumed x)) old h.0 in
+    let results = results_under q xs j o.old rival top end item code source calls kept.resolution kept.grown from o.old_is rival_is low proc_old of_old holds under_old.inputs in
+    let above : IsBelow before.input (input_in source) = below_trans before.input top (input_in source) (known.vars ∙ sym known.params) under known.under in
+    let up : IsUpper q.program o.old.proc.0 q.thresholds o.input (stored_of q.assumed o.old) source item code end calls = record {
+      proc = proc_old;
+      assumed = subst (λ (A : Assumed). IsLess q.assumed A) (sym known.assumed) (λ name word held. held);
+      params = known.params;
+      over = known.over;
+      thresholds = known.thresholds;
+      above = subst (λ (z : Zone). IsBelow z (input_in source)) taken above;
       holds = holds;
       results = results;
     } in
-    let g = o.passed.under w item code end calls up under_old in
+    let g = o.passed.under source item code end calls up under_old in
     let range : result ≡ o.range = range_is q xs j raised s ys s' v i b.0 path' result e (kept.grown.placed i b.0 one b.1) b.2 given in
-    (subst (λ (x : Path). IsUnder w calls (stored_of q.assumed x)) new g.0, subst (λ (c : Cond). IsAbove row.result c) (sym range) g.1))
+    (subst (λ (x : Path). IsUnder source calls (stored_of q.assumed x)) new g.0, subst (λ (c : Cond). IsAbove (result_in source) c) (sym range) g.1))
     (λ (n : i ≡ j → ⊥).
     let mine : HasResult xs b.0 result = ⊎_elim (λ (h : (i ≡ j) × (result ≡ o.range)). absurd (n h.0)) (λ (h : HasResult xs b.0 result). h)
     (result_before q xs j raised s ys s' v i b.0 path' result (kept.grown.placed i b.0 one b.1) b.2 given) in
-    let h = low i b.0 before.input normed end result item code row calls one b.1 before.has mine among formed' norm under holds in
-    (under_same w calls q.assumed b.0 path' (b.2.keeps n) (b.2.inputs n) (b.2.unproved n) h.0, h.1))
+    let h = low i b.0 before.input top end result item code source calls one b.1 before.has mine proc' of' under holds in
+    (under_same source calls q.assumed b.0 path' (b.2.keeps n) (b.2.inputs n) (b.2.unproved n) h.0, h.1))
     (cases_eq i j)
 
 -- what is kept stays so

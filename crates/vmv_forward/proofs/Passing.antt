@@ -9,10 +9,10 @@ use Rattle.vmv_snapshot.specs.Procs.{params_of}
 use Rattle.vmv_snapshot.specs.Resolution.{procs_of}
 use Rattle.vmv_zone.specs.declared.zone.Zone.{Zone}
 use Rattle.vmv_zone.specs.Zone.{vars_of}
-use Rattle.vmv_cert.specs.Walk.{Walk}
 use Rattle.vmv_cert.specs.Tables.{IsAbove}
 use Rattle.vmv_check.proofs.Lists.{some_same, within, at_place}
-use Rattle.vmv_pass.specs.Settles.{Stored, SettlesBody}
+use Rattle.vmv_pass.specs.Source.{Stored, Source, result_in}
+use Rattle.vmv_pass.specs.Holds.{Settles}
 use Rattle.vmv_pass.specs.Room.{rooms, ranks}
 use Rattle.vmv_pass.specs.Upper.{IsProc, Fits, AreBelow, IsUnder, IsUpper}
 use Rattle.vmv_forward.specs.Path.{Path}
@@ -31,13 +31,13 @@ path_with proc caller place callees keeps inputs results unproved =
 pub record Raised (q : Quest) (proc : ProcId) (input : Zone) (k i : List Zone) (r : List Cond) (u : List Bool) (k' i' : List Zone) (u' : List Bool) (range : Cond) (raised : Bool) (s s' : ℕ) : Type 0 where
   pub keeps_stay : IsFalse raised → k' ≡ k
   pub inputs_stay : IsFalse raised → i' ≡ i
-  pub settled : IsFalse raised → (item : Item) (code : Code) → IsProc q.program proc.0 item code → SettlesBody (storage q k' i' r u') item code input range
+  pub settled : IsFalse raised → (item : Item) (code : Code) → IsProc q.program proc.0 item code → Settles (storage q k' i' r u') item code input range
   pub fits : (item : Item) (code : Code) → IsProc q.program proc.0 item code → Fits q.program q.thresholds item code (storage q k' i' r u')
   pub keeps_rise : AreBelow k k'
   pub inputs_rise : AreBelow i i'
   pub falls : IsTrue raised → rooms k' + rooms i' < rooms k + rooms i
-  pub under : (w : Walk) (item : Item) (code : Code) (end : Zone) (calls : List (Option Zone)) → IsUpper q.program proc.0 q.thresholds input (storage q k i r u) w item code end calls → IsUnder w calls (storage q k i r u) →
-      IsUnder w calls (storage q k' i' r u') × IsAbove w.row.result range
+  pub under : (source : Source) (item : Item) (code : Code) (end : Zone) (calls : List (Option Zone)) → IsUpper q.program proc.0 q.thresholds input (storage q k i r u) source item code end calls → IsUnder source calls (storage q k i r u) →
+      IsUnder source calls (storage q k' i' r u') × IsAbove (result_in source) range
   pub cost : s' + ranks q.thresholds k ≤ s + ranks q.thresholds k'
 
 passed_same : (q : Quest) (proc : ProcId) (caller place : ℕ) (callees : List ℕ) (input : Zone) (k i : List Zone) (r : List Cond) (u : List Bool) (k' i' : List Zone) (u' : List Bool) (range : Cond) (raised : Bool) (s s' : ℕ) →

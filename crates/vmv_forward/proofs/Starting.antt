@@ -1,4 +1,5 @@
 -- Instances of which nothing is known are below every table.
+use Rattle.vmv_pass.specs.Source.{keeps_in, result_in}
 use Rattle.std.proofs.Common.{◌≡◌, ◌⊎◌, inl, inr, ⊎_elim, ℕ, suc, ◌≤◌, Bool, true, IsFalse, Result, Ok, Err, IfOk, Option, Some, None, List, [], ◌∷◌, length, slice_get, get_or, refl, sym, ap, subst, arith, ◌∙◌}
 use Rattle.std.specs.List.{All, AllZip}
 use Rattle.std.proofs.lemmas.Bool.{cases_eq}
@@ -23,7 +24,7 @@ use Rattle.vmv_forward.specs.Paths.{IsPlaced, IsGrown}
 use Rattle.vmv_forward.specs.Rounds.{Quest, HasResult, AreFit, AreKept, HaveFew}
 use Rattle.vmv_pass.proofs.Bodies.{facts_of}
 use Rattle.vmv_forward.specs.Grow.{IsStart}
-use Rattle.vmv_forward.proofs.Low.{proc_of}
+use Rattle.vmv_forward.proofs.Low.{source_at}
 
 -- Bottom is below each state
 pub bottoms_below : (xs ys : List Zone) → length xs ≡ length ys → All IsBottom xs → AllZip IsBelow xs ys
@@ -130,16 +131,17 @@ start_kept q paths is scale start over normal =
       scale = scale;
       grown = grown;
       fit = fit;
-      low = λ rows rival j path input normed end result item code row calls one at has given among formed norm below holds.
+      low = λ rival is_rival j path input top end result item code source calls one at has given proc of below holds.
           let fresh = g.fresh j path one at in
-          let fits = g.fits j path q.assumed q.thresholds item code one at (proc_of q.program row path.proc.0 item code formed) in
+          let fits = g.fits j path q.assumed q.thresholds item code one at proc in
+          let known = source_at q rival path.proc.0 item code top source is_rival proc of in
           let inputs = AllZip-long (λ (callee : ProcId) (z : Zone). HasParams q.program callee.0 (vars_of z) × IsNormal z) (block_callees (code_of code).block) path.inputs fits.inputs in (
             record {
-              keeps = bottoms_below path.keeps row.keeps (fits.keeps ∙ sym formed.keeps) fresh.keeps;
+              keeps = bottoms_below path.keeps (keeps_in source) (fits.keeps ∙ sym known.keeps) fresh.keeps;
               inputs = bottoms_called path.inputs calls (inputs ∙ sym holds.count) fresh.inputs;
               unproved = λ i flag. absurd (no_flag path.unproved i fresh.unproved flag);
             },
-            empty_above row.result result (empty_result q paths start j path result one at given),
+            empty_above (result_in source) result (empty_result q paths start j path result one at given),
           );
     }
 
@@ -160,7 +162,7 @@ start_few q paths is start i path at =
     λ k d h. (let v : vars_of (get_or path.keeps k d) ≡ link.code.vars = f.over k d h in omega (arith, v, few)))
     (cases_eq i 0)
 
--- three facts of what a call gives give a fourth
-pub of_three : {A E : Type 0} (r : Result A E) (P Q R S : A → Type 0) → ((a : A) → P a → Q a → R a → S a) → IfOk r P → IfOk r Q → IfOk r R → IfOk r S
-of_three (Ok a) P Q R S f p q s = f a p q s
-of_three (Err e) P Q R S f p q s = tt
+-- a fact of what a call gives gives another
+pub of_one : {A E : Type 0} (r : Result A E) (P Q : A → Type 0) → ((a : A) → P a → Q a) → IfOk r P → IfOk r Q
+of_one (Ok a) P Q f p = f a p
+of_one (Err e) P Q f p = tt

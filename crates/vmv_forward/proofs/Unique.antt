@@ -28,11 +28,12 @@ use Rattle.vmv_check.specs.Walker.{HasParams}
 use Rattle.vmv_check.proofs.Lists.{some_same, within, item_at, new_in}
 use Rattle.vmv_check.proofs.Codes.{code_ready}
 use Rattle.vmv_pass.specs.Callees.{block_callees}
+use Rattle.vmv_pass.specs.Source.{by_row}
 use Rattle.vmv_pass.specs.Holds.{HoldsRow}
 use Rattle.vmv_forward.specs.Least.{IsReachBelow, IsNormBelow, IsLeastRow, IsRowFor, Visit, VisitsCalls, Visits, IsLeastTable}
 use Rattle.vmv_forward.proofs.Items.{are_whole}
 use Rattle.vmv_forward.proofs.Fair.{code_fair}
-use Rattle.vmv_forward.proofs.Settled.{below_same, normal_floored}
+use Rattle.vmv_forward.proofs.States.{below_same, normal_floored}
 use Rattle.vmv_forward.proofs.Instances.{normal_norm, proc_once}
 use Rattle.vmv_forward.proofs.Compare.{IsMetCall, IsBelowMet, Setting, held_run, block_lower}
 use Rattle.vmv_forward.proofs.Leastness.{holding}
@@ -114,7 +115,7 @@ words_fewer program number ends assumed T U row whole calls' one two c callee ar
 
 -- the calls of a row's walk in the one table are below those in the other
 calls_lower : (program : Resolution) (number : ℕ) (ends : List NameEnds) (assumed : Assumed) (T U : List Row) (row : Row) (n : ℕ) (item : Item) (code : Code) (end end' : Zone) (calls calls' : List (Option Zone)) → IsResolution program →
-    IsSide program number ends assumed T → IsSide program number ends assumed U → IsFormed program row n item code → HoldsRow (walk_at program assumed T row) item code end calls → HoldsRow (walk_at program assumed U row) item code end' calls' →
+    IsSide program number ends assumed T → IsSide program number ends assumed U → IsFormed program row n item code → HoldsRow (by_row (walk_at program assumed T row)) item code end calls → HoldsRow (by_row (walk_at program assumed U row)) item code end' calls' →
     ((c : ℕ) (callee : ProcId) (args : Zone) → slice_get (block_callees (code_of code).block) c ≡ Some callee → slice_get calls c ≡ Some (Some args) → HasRow program T callee.0 args) → (c : ℕ) (callee : ProcId) (args : Zone) →
     slice_get (block_callees (code_of code).block) c ≡ Some callee → slice_get calls c ≡ Some (Some args) → IsBelowMet program (IsMetCall (walk_at program assumed U row) (block_callees (code_of code).block) calls') c callee.0 args
 calls_lower program number ends assumed T U row n item code end end' calls calls' is one two formed h g has c callee args at met =
@@ -194,7 +195,7 @@ same_rows program number ends assumed T U a b n input item code is one two norma
 
 -- of a row that both sides visit, the calls are the same
 same_walk : (program : Resolution) (number : ℕ) (ends : List NameEnds) (assumed : Assumed) (T U : List Row) (row : Row) (n : ℕ) (item : Item) (code : Code) (end end' : Zone) (calls calls' : List (Option Zone)) → IsResolution program →
-    IsSide program number ends assumed T → IsSide program number ends assumed U → IsFormed program row n item code → HoldsRow (walk_at program assumed T row) item code end calls → HoldsRow (walk_at program assumed U row) item code end' calls' →
+    IsSide program number ends assumed T → IsSide program number ends assumed U → IsFormed program row n item code → HoldsRow (by_row (walk_at program assumed T row)) item code end calls → HoldsRow (by_row (walk_at program assumed U row)) item code end' calls' →
     ((c : ℕ) (callee : ProcId) (args : Zone) → slice_get (block_callees (code_of code).block) c ≡ Some callee → slice_get calls c ≡ Some (Some args) → HasRow program T callee.0 args) →
     ((c : ℕ) (callee : ProcId) (args : Zone) → slice_get (block_callees (code_of code).block) c ≡ Some callee → slice_get calls' c ≡ Some (Some args) → HasRow program U callee.0 args) →
     (calls ≡ calls') × ((c : ℕ) (args : Zone) → slice_get calls c ≡ Some (Some args) → IsNormal args)
@@ -234,8 +235,8 @@ same_visits program number ends assumed T U is one two (suc depth) (suc depth') 
     let formed' : IsFormed program b n item code = subst (λ (i : Item). IsFormed program b n i code) (sym f.0) (subst (λ (d : Code). IsFormed program b n y.item d) (sym f.1) y.formed) in
     let same : a ≡ b = same_rows program number ends assumed T U a b n input item code is one two normal formed formed' among among' for for' in
     let k = proc_once program n item' item code' code proc' proc in
-    let onto : HoldsRow (walk_at program assumed U a) item code end' calls' =
-    subst (λ (r : Row). HoldsRow (walk_at program assumed U r) item code end' calls') (sym same) (subst (λ (i : Item). HoldsRow (walk_at program assumed U b) i code end' calls') k.0 (subst (λ (d : Code). HoldsRow (walk_at program assumed U b) item' d end' calls') k.1 holds')) in
+    let onto : HoldsRow (by_row (walk_at program assumed U a)) item code end' calls' =
+    subst (λ (r : Row). HoldsRow (by_row (walk_at program assumed U r)) item code end' calls') (sym same) (subst (λ (i : Item). HoldsRow (by_row (walk_at program assumed U b)) i code end' calls') k.0 (subst (λ (d : Code). HoldsRow (by_row (walk_at program assumed U b)) item' d end' calls') k.1 holds')) in
     let w' = subst (λ (r : Row). VisitsCalls W (block_callees (code_of code).block) calls' (seen ++ r ∷ []) out') (sym same) (subst (λ (d : Code). VisitsCalls W (block_callees (code_of d).block) calls' (seen ++ b ∷ []) out') k.1 v') in
     let r = same_walk program number ends assumed T U a n item code end end' calls calls' is one two formed holds onto
     (λ c callee args at met. (let s = calls_stand program V (block_callees (code_of code).block) calls (seen ++ a ∷ []) out more (visits_stand depth program assumed T) v c callee args at met in (s.0, sub s.0 s.1, s.2)))
@@ -243,10 +244,10 @@ same_visits program number ends assumed T U is one two (suc depth) (suc depth') 
     let v'' = subst (λ (os : List (Option Zone)). VisitsCalls W (block_callees (code_of code).block) os (seen ++ a ∷ []) out') (sym r.0) w' in
     same_calls V W T U (block_callees (code_of code).block) calls (seen ++ a ∷ []) out out' more more' (same_visits program number ends assumed T U is one two depth depth') r.1 v v'' sub sub'
 
-pub are_unique : (program : Resolution) (number : ℕ) (box : Box) (ends : List NameEnds) (assumed : Assumed) (rows other : List Row) → IsResolution program → Accepted program assumed rows → HasThresholds program number ends rows →
-    IsLeastTable program number box ends assumed rows → Accepted program assumed other → HasThresholds program number ends other → IsLeastTable program number box ends assumed other → rows ≡ other
-are_unique program number box ends assumed rows other is accepted has least accepted' has' least' =
+pub are_unique : (program : Resolution) (number : ℕ) (box : Box) (ends : List NameEnds) (assumed : Assumed) (rows other : List Row) → IsResolution program →
+    IsLeastTable program number box ends assumed rows → IsLeastTable program number box ends assumed other → rows ≡ other
+are_unique program number box ends assumed rows other is least least' =
     let same : least'.input ≡ least.input = boxed_once box least'.boxed least.boxed least'.input least.input least'.box_is least.box_is least'.norm least.norm in
     let moved = subst (λ (z : Zone). Visits least'.depth program assumed other number z [] other) same least'.visits in
-    same_visits program number ends assumed rows other is (record { accepted = accepted; thresholds = has; least = least.least }) (record { accepted = accepted'; thresholds = has'; least = least'.least }) least.depth least'.depth number least.input [] rows other
+    same_visits program number ends assumed rows other is (record { accepted = least.accepted; thresholds = least.thresholds; least = least.least }) (record { accepted = least'.accepted; thresholds = least'.thresholds; least = least'.least }) least.depth least'.depth number least.input [] rows other
     least.norm.normal least.visits moved (λ row c. c) (λ row c. c)

@@ -14,14 +14,14 @@ use Rattle.vmv_zone.specs.Round.{IsThresholdState}
 use Rattle.vmv_check.specs.Walker.{HasParams}
 use Rattle.vmv_check.proofs.Lists.{some_same, within, item_at}
 use Rattle.vmv_pass.specs.Callees.{block_callees}
-use Rattle.vmv_pass.specs.Settles.{SettlesBody}
+use Rattle.vmv_pass.specs.Holds.{Settles}
 use Rattle.vmv_pass.specs.Room.{rooms, ranks}
 use Rattle.vmv_pass.specs.Upper.{IsProc, Fits, AreBelow}
 use Rattle.vmv_forward.specs.Path.{Path}
 use Rattle.vmv_forward.specs.Paths.{IsCallee, IsPlaced, IsGrown, loops_of}
 use Rattle.vmv_forward.specs.Rounds.{Quest, stored_of, HasInput, HasResult, AreFit, IsSettled, IsVisited, all_rooms, all_ranks, HaveFew}
 use Rattle.vmv_forward.proofs.Sets.{get_same, get_other, length_set, sum_set, zip_at}
-use Rattle.vmv_forward.proofs.Below.{below_same}
+use Rattle.vmv_forward.proofs.States.{below_same}
 
 -- how a path is changed by a visit of instance j, whose caller is p
 pub record Moved (q : Quest) (old : Path) (j p place : ℕ) (range : Cond) (raised : Bool) (i : ℕ) (path path' : Path) : Type 0 where
@@ -320,9 +320,9 @@ settled_here q xs j raised s ys s' v from grown still path input result item cod
     let is' = subst (λ (x : Path). IsProc q.program x.proc.0 item code) old (subst (λ (n : ProcId). IsProc q.program n.0 item code) b.2.proc is) in
     let range : result ≡ o.range = range_is q xs j raised s ys s' v j b.0 path result refl (grown.placed j b.0 from b.1) b.2 given in
     let body = o.passed.settled still item code is' in
-    let b1 = subst (λ (x : Path). SettlesBody (stored_of q.assumed x) item code o.input o.range) new body in
-    let b2 = subst (λ (z : Zone). SettlesBody (stored_of q.assumed path) item code z o.range) (sym (before.stay still ∙ taken)) b1 in
-    subst (λ (c : Cond). SettlesBody (stored_of q.assumed path) item code input c) (sym range) b2
+    let b1 = subst (λ (x : Path). Settles (stored_of q.assumed x) item code o.input o.range) new body in
+    let b2 = subst (λ (z : Zone). Settles (stored_of q.assumed path) item code z o.range) (sym (before.stay still ∙ taken)) b1 in
+    subst (λ (c : Cond). Settles (stored_of q.assumed path) item code input c) (sym range) b2
 
 -- where nothing was raised, an instance that is called later stays settled
 pub settled_stays : (q : Quest) (xs : List Path) (j : ℕ) (raised : Bool) (s : ℕ) (ys : List Path) (s' : ℕ) (v : Seen q xs j raised s ys s') (k : ℕ) → 1 ≤ j → j < k → IsGrown q.program q.entry xs → IsFalse raised → IsSettled q xs k → IsSettled q ys k
@@ -337,8 +337,8 @@ settled_stays q xs j raised s ys s' v k from after grown still settled path' inp
     let mine : HasResult xs b.0 result = ⊎_elim (λ (h : (k ≡ j) × (result ≡ o.range)). absurd (apart h.0)) (λ (h : HasResult xs b.0 result). h)
     (result_before q xs j raised s ys s' v k b.0 path' result (grown.placed k b.0 (omega arith) b.1) b.2 given) in
     let body = settled b.0 before.input result item code b.1 before.has mine is' in
-    let b1 = subst (λ (x : Path). SettlesBody (stored_of q.assumed x) item code before.input result) (sym same) body in
-    subst (λ (z : Zone). SettlesBody (stored_of q.assumed path') item code z result) (sym (before.stay still)) b1
+    let b1 = subst (λ (x : Path). Settles (stored_of q.assumed x) item code before.input result) (sym same) body in
+    subst (λ (z : Zone). Settles (stored_of q.assumed path') item code z result) (sym (before.stay still)) b1
 
 -- sums over the instances
 sum_moved : (f : Path → ℕ) (q : Quest) (xs : List Path) (j : ℕ) (raised : Bool) (s : ℕ) (ys : List Path) (s' : ℕ) (v : Seen q xs j raised s ys s') →

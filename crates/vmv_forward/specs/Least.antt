@@ -18,6 +18,7 @@ use Rattle.vmv_cert.specs.declared.row.Reach.{Reach}
 use Rattle.vmv_cert.specs.declared.row.Reach.TheVariants.{Bottom, Value}
 use Rattle.vmv_cert.specs.Tables.{Accepted, HasThresholds, Box, IsBoxState}
 use Rattle.vmv_pass.specs.Callees.{block_callees}
+use Rattle.vmv_pass.specs.Source.{by_row}
 use Rattle.vmv_pass.specs.Holds.{HoldsRow}
 use Rattle.vmv_pass.specs.Upper.{IsProc}
 
@@ -75,10 +76,11 @@ Visits (suc depth) program assumed rows n input seen out =
     (((row : Row) × Contains seen row × IsRowFor program n input row) × (out ≡ seen))
     ⊎ (((row : Row) → Contains seen row → IsRowFor program n input row → ⊥)
     × ((row : Row) × (item : Item) × (code : Code) × (end : Zone) × (calls : List (Option Zone)) × IsRowFor program n input row
-    × IsProc program n item code × HoldsRow (record { program = program; assumed = assumed; rows = rows; row = row }) item code end calls
+    × IsProc program n item code × HoldsRow (by_row (record { program = program; assumed = assumed; rows = rows; row = row })) item code end calls
     × VisitsCalls (Visits depth program assumed rows) (block_callees (code_of code).block) calls (seen ++ row ∷ []) out))
 
--- the rows are those of a visit of the entry with the norm of the box, and each is least
+-- The rows are those of a visit of the entry with the norm of the box, in an accepted table of threshold states, and each is
+-- least.
 pub record IsLeastTable (program : Resolution) (number : ℕ) (box : Box) (ends : List NameEnds) (assumed : Assumed) (rows : List Row) : Type 0 where
   pub boxed : Zone
   pub box_is : IsBoxState box boxed
@@ -86,4 +88,6 @@ pub record IsLeastTable (program : Resolution) (number : ℕ) (box : Box) (ends 
   pub norm : IsNormOf boxed input
   pub depth : ℕ
   pub visits : Visits depth program assumed rows number input [] rows
+  pub accepted : Accepted program assumed rows
+  pub thresholds : HasThresholds program number ends rows
   pub least : (row : Row) → Contains rows row → IsLeastRow program number ends assumed row

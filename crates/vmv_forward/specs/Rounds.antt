@@ -13,8 +13,8 @@ use Rattle.vmv_cert.specs.declared.row.Row.{Row}
 use Rattle.vmv_cert.specs.Walk.{Walk}
 use Rattle.vmv_cert.specs.Tables.{IsFormed, IsAbove, Accepted}
 use Rattle.vmv_check.specs.Walker.{HasParams}
-use Rattle.vmv_pass.specs.Holds.{HoldsRow}
-use Rattle.vmv_pass.specs.Settles.{Stored, SettlesBody}
+use Rattle.vmv_pass.specs.Source.{Stored, Source, by_row, by_stored, result_in}
+use Rattle.vmv_pass.specs.Holds.{HoldsRow, Settles}
 use Rattle.vmv_pass.specs.Room.{rooms, ranks}
 use Rattle.vmv_pass.specs.Upper.{IsProc, AreScale, Fits, AreBelow, IsUnder, IsUpper}
 use Rattle.vmv_forward.specs.Path.{Path}
@@ -55,33 +55,72 @@ pub record AreFit (q : Quest) (paths : List Path) : Type 0 where
   pub each : (i : ℕ) (path : Path) (item : Item) (code : Code) → 1 ≤ i → slice_get paths i ≡ Some path → IsProc q.program path.proc.0 item code
       → Fits q.program q.thresholds item code (stored_of q.assumed path)
 
+-- the walk of instance j holds over what is stored, and ends in the result that is stored for it
+abbrev pub IsSettled : Quest → List Path → ℕ → Type 0
+IsSettled q paths j =
+    (path : Path) (input : Zone) (result : Cond) (item : Item) (code : Code) → slice_get paths j ≡ Some path → HasInput paths path input
+    → HasResult paths path result → IsProc q.program path.proc.0 item code → Settles (stored_of q.assumed path) item code input result
+
 -- an accepted table of threshold states
-pub record IsRival (q : Quest) (rows : List Row) : Type 0 where
+pub record AreAccepted (q : Quest) (rows : List Row) : Type 0 where
   pub accepted : Accepted q.program q.assumed rows
   pub thresholds : (row : Row) → Contains rows row → All (IsThresholdState q.thresholds) row.keeps
 
--- what is stored for an instance is below each row of the table for its procedure whose input is above the instance's
-abbrev pub AreLow : Quest → List Path → List Row → Type 0
-AreLow q paths rows =
-    (j : ℕ) (path : Path) (input normed end : Zone) (result : Cond) (item : Item) (code : Code) (row : Row) (calls : List (Option Zone))
-    → 1 ≤ j → slice_get paths j ≡ Some path → HasInput paths path input → HasResult paths path result
-    → Contains rows row → IsFormed q.program row path.proc.0 item code → IsNormOf row.input normed → IsBelow input normed
-    → HoldsRow (walk_of q rows row) item code end calls
-    → IsUnder (walk_of q rows row) calls (stored_of q.assumed path) × IsAbove row.result result
+-- instances of the entry whose walks hold
+pub record AreSettled (q : Quest) (paths : List Path) : Type 0 where
+  pub grown : IsGrown q.program q.entry paths
+  pub fit : AreFit q paths
+  pub settled : (j : ℕ) → 1 ≤ j → IsSettled q paths j
 
--- what holds between the visits of instances: what is stored fits, and is below every accepted table of threshold states
+-- what instances are compared with: the rows of a table, or instances
+pub data Rival : Type 0 where
+  of_table : List Row → Rival
+  of_paths : List Path → Rival
+
+-- a table is accepted, and instances are settled
+abbrev pub IsRival : Quest → Rival → Type 0
+IsRival q (of_table rows) = AreAccepted q rows
+IsRival q (of_paths paths) = AreSettled q paths
+
+-- a row of the procedure of this number, whose input has this norm
+pub record IsRowAt (q : Quest) (rows : List Row) (n : ℕ) (top : Zone) (row : Row) : Type 0 where
+  pub among : Contains rows row
+  pub item : Item
+  pub code : Code
+  pub formed : IsFormed q.program row n item code
+  pub norm : IsNormOf row.input top
+
+-- an instance of the procedure of this number, with this input and this range of what it returns
+pub record IsPathAt (paths : List Path) (n : ℕ) (top : Zone) (range : Cond) (path : Path) : Type 0 where
+  pub number : ℕ
+  pub one : 1 ≤ number
+  pub at : slice_get paths number ≡ Some path
+  pub proc : path.proc.0 ≡ n
+  pub input : HasInput paths path top
+  pub result : HasResult paths path range
+
+-- the source is a row or an instance of the rival's, of the procedure of this number and with this input, which is normal
+abbrev pub IsOf : Quest → Rival → ℕ → Zone → Source → Type 0
+IsOf q (of_table rows) n top source = (row : Row) × IsRowAt q rows n top row × (source ≡ by_row (walk_of q rows row))
+IsOf q (of_paths paths) n top source = (range : Cond) × (path : Path) × IsPathAt paths n top range path × (source ≡ by_stored top range (stored_of q.assumed path))
+
+-- What is stored for an instance is below each walk of its procedure that holds, by a row or an instance of the rival's whose
+-- input is above the instance's.
+abbrev pub AreLow : Quest → List Path → Rival → Type 0
+AreLow q paths rival =
+    (j : ℕ) (path : Path) (input top end : Zone) (result : Cond) (item : Item) (code : Code) (source : Source) (calls : List (Option Zone))
+    → 1 ≤ j → slice_get paths j ≡ Some path → HasInput paths path input → HasResult paths path result
+    → IsProc q.program path.proc.0 item code → IsOf q rival path.proc.0 top source → IsBelow input top → HoldsRow source item code end calls
+    → IsUnder source calls (stored_of q.assumed path) × IsAbove (result_in source) result
+
+-- what holds between the visits of instances: what is stored fits, and is below every accepted table of threshold states and
+-- all that settled instances store
 pub record AreKept (q : Quest) (paths : List Path) : Type 0 where
   pub resolution : IsResolution q.program
   pub scale : AreScale q.thresholds
   pub grown : IsGrown q.program q.entry paths
   pub fit : AreFit q paths
-  pub low : (rows : List Row) → IsRival q rows → AreLow q paths rows
-
--- the walk of instance j holds over what is stored, and ends in the result that is stored for it
-abbrev pub IsSettled : Quest → List Path → ℕ → Type 0
-IsSettled q paths j =
-    (path : Path) (input : Zone) (result : Cond) (item : Item) (code : Code) → slice_get paths j ≡ Some path → HasInput paths path input
-    → HasResult paths path result → IsProc q.program path.proc.0 item code → SettlesBody (stored_of q.assumed path) item code input result
+  pub low : (rival : Rival) → IsRival q rival → AreLow q paths rival
 
 -- each state at a loop is over at most 16 variables
 abbrev pub HaveFew : List Path → Type 0
@@ -106,14 +145,14 @@ pub record IsPassed (q : Quest) (input : Zone) (old new : Path) (range : Cond) (
   pub shape : IsSameShape old new
   pub keeps_stay : IsFalse raised → new.keeps ≡ old.keeps
   pub inputs_stay : IsFalse raised → new.inputs ≡ old.inputs
-  pub settled : IsFalse raised → (item : Item) (code : Code) → IsProc q.program old.proc.0 item code → SettlesBody (stored_of q.assumed new) item code input range
+  pub settled : IsFalse raised → (item : Item) (code : Code) → IsProc q.program old.proc.0 item code → Settles (stored_of q.assumed new) item code input range
   pub fits : (item : Item) (code : Code) → IsProc q.program old.proc.0 item code → Fits q.program q.thresholds item code (stored_of q.assumed new)
   pub keeps_rise : AreBelow old.keeps new.keeps
   pub inputs_rise : AreBelow old.inputs new.inputs
   pub falls : IsTrue raised → rooms new.keeps + rooms new.inputs < rooms old.keeps + rooms old.inputs
-  pub under : (w : Walk) (item : Item) (code : Code) (end : Zone) (calls : List (Option Zone))
-      → IsUpper q.program old.proc.0 q.thresholds input (stored_of q.assumed old) w item code end calls → IsUnder w calls (stored_of q.assumed old)
-      → IsUnder w calls (stored_of q.assumed new) × IsAbove w.row.result range
+  pub under : (source : Source) (item : Item) (code : Code) (end : Zone) (calls : List (Option Zone))
+      → IsUpper q.program old.proc.0 q.thresholds input (stored_of q.assumed old) source item code end calls
+      → IsUnder source calls (stored_of q.assumed old) → IsUnder source calls (stored_of q.assumed new) × IsAbove (result_in source) range
   pub cost : steps' + ranks q.thresholds old.keeps ≤ steps + ranks q.thresholds new.keeps
 
 -- a visit of instance j: a pass over it from its input, and the range goes to its caller

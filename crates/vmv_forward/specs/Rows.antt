@@ -51,12 +51,6 @@ pub record IsRowOf (program : Resolution) (paths : List Path) (j : ℕ) (row : R
   pub sites : AreSitesOf program path.proc.0 row.unproved
   pub listed : (site : NamedSite) → Contains row.unproved site ↔ ((m : ℕ) × IsSiteOf program path.proc.0 m site × IsListed paths j m site.index)
 
--- each is the row of an instance that is reached, and each such instance has a row
-pub record AreRowsOf (program : Resolution) (paths : List Path) (rows : List Row) : Type 0 where
-  pub each : (row : Row) → Contains rows row → (j : ℕ) × IsRowOf program paths j row
-  pub all : (j : ℕ) (path : Path) (input : Zone) → 1 ≤ j → slice_get paths j ≡ Some path → HasInput paths path input → NotBottom input
-      → (row : Row) × Contains rows row × IsRowOf program paths j row
-
 -- instance j, with this input, from these rows on to those
 abbrev pub Lay : Type 1
 Lay = ℕ → Zone → List Row → List Row → Type 0

@@ -6,7 +6,7 @@ ghost use Rattle.vmv_snapshot.specs.Tables.{body_sites};
 ghost use Rattle.vmv_zone.specs.Zone.{NotBottom};
 ghost use Rattle.vmv_cert.specs.Tables.{IsSiteOf, AreSitesOf};
 ghost use Rattle.vmv_forward.specs.Paths.{IsGrown};
-ghost use Rattle.vmv_forward.specs.Rows.{IsFlagged, IsListed, IsReachOf, IsRowOf, AreRowsOf, IsReached, AreListedSites, AddsSites};
+ghost use Rattle.vmv_forward.specs.Rows.{IsFlagged, IsListed, IsReachOf, IsRowOf, IsReached, AreListedSites, AddsSites};
 ghost use Rattle.vmv_forward.specs.Rounds.{quest_of, AreKept, HasInput, HasResult};
 
 use crate::instance::Instance;
@@ -129,32 +129,4 @@ pub(crate) fn row_of(
         result: reach_of(result_of(search, instances, number)),
         unproved: Items::from_vec(sites_of(alloc, search, instances, number)?),
     })
-}
-
-/// Whether the instance is reached: its caller's input for it isn't Bottom.
-fn is_reached(search: &Search<'_>, instances: &[Instance], number: usize) -> bool
-    requires from { 1 ≤ number }
-    requires to { number < length instances.now }
-    requires kept { AreKept (quest_of search.now) instances.now }
-    ensures { IsTrue result ↔ IsReached instances.now number }
-{
-    !input_of(search, instances, number).is_bottom()
-}
-
-/// The rows of all instances that are reached.
-pub(crate) fn all_rows(
-    alloc: Global,
-    search: &Search<'_>,
-    instances: &[Instance],
-) -> Result<Vec<Row>, AllocError>
-    requires { AreKept (quest_of search.now) instances.now }
-    ensures { IfOk result (λ rows. AreRowsOf search.now.snapshot.now instances.now rows.items) }
-{
-    let mut rows = Vec::new(alloc);
-    for number in 1..instances.len() {
-        if is_reached(search, instances, number) {
-            rows.push(row_of(alloc, search, instances, number)?)?;
-        }
-    }
-    Ok(rows)
 }

@@ -1,14 +1,13 @@
-ghost use Rattle.std.specs.Prelude.{◌≡◌, ◌<◌, ◌≤◌, ◌+◌, ◌*◌, ℕ, List, [], length, IfOk, OnOk};
+ghost use Rattle.std.specs.Prelude.{◌≡◌, ◌<◌, ◌≤◌, ◌+◌, ◌*◌, List, [], length, IfOk};
 ghost use Rattle.vmv_tree.specs.declared.ends.NameEnds.{NameEnds};
 ghost use Rattle.vmv_tree.specs.declared.tree.Param.{Param};
 ghost use Rattle.vmv_snapshot.specs.Resolution.{tree_of};
 ghost use Rattle.vmv_assumption.specs.Assumed.{cond_of};
-ghost use Rattle.vmv_cert.specs.Tables.{Accepted, IsRefused, HasThresholds, IsEntry, IsBoxIn};
+ghost use Rattle.vmv_cert.specs.Tables.{Accepted, HasThresholds, IsEntry, IsBoxIn};
 ghost use Rattle.vmv_thresholds.specs.Thresholds.{AreThresholds};
 ghost use Rattle.vmv_zone.specs.Zone.{NotBottom};
-ghost use Rattle.vmv_forward.specs.Rounds.{quest_of, AreKept, IsSettled};
-ghost use Rattle.vmv_cert.specs.declared.row.Row.{Row};
-ghost use Rattle.vmv_forward.specs.Rows.{AreRowsOf, Lays};
+ghost use Rattle.vmv_forward.specs.Rounds.{quest_of, AreKept};
+ghost use Rattle.vmv_forward.specs.Rows.{Lays};
 ghost use Rattle.vmv_forward.specs.Least.{IsLeastTable};
 ghost use Rattle.vmv_forward.specs.Instances.{instances};
 
@@ -17,49 +16,25 @@ use crate::grow::instances_of;
 use crate::instance::Instance;
 use crate::lay::rows_in_order;
 use crate::rounds::{Search, settle};
-use crate::row::all_rows;
 use sqlite_items::Items;
 use std::alloc::{AllocError, Global};
 use std::sync::ledger::Ledger;
 use vmv_assumption::Assumption;
-use vmv_cert::{Row, Table};
-use vmv_check::check_table;
+use vmv_cert::Table;
 use vmv_pass::Steps;
 use vmv_snapshot::{ParamBox, ProcId, Snapshot};
 use vmv_thresholds::Thresholds;
 
-/// Looks through a table that can't be refused. It fails where there are more rows than memory holds.
-fn look_through(search: &Search<'_>, table: &Table) -> Result<(), AllocError>
-    requires { (number step : ℕ) → IsRefused search.now.snapshot.now (cond_of search.now.assumed.now) table.now.rows number step → ⊥ }
-    ensures { OnOk result (Accepted search.now.snapshot.now (cond_of search.now.assumed.now) table.now.rows) }
-{
-    if table.rows.len() > u32::MAX as usize {
-        return Err(AllocError);
-    }
-    match check_table(search.snapshot, search.assumed, table) {
-        Ok(()) => Ok(()),
-        Err(_) => unreachable!(),
-    }
-}
-
-/// The rows of the entry and of what it calls, in order. The rows of all instances are looked through first.
+/// The rows of the entry and of what it calls, in order.
 fn table_of(alloc: Global, search: &Search<'_>, instances: &[Instance]) -> Result<Table, AllocError>
     requires kept { AreKept (quest_of search.now) instances.now }
-    requires settled { (j : ℕ) → 1 ≤ j → IsSettled (quest_of search.now) instances.now j }
     requires reached { NotBottom search.now.input.now }
-    ensures accepted { IfOk result (λ table. Accepted search.now.snapshot.now (cond_of search.now.assumed.now) table.rows) }
-    ensures whole { IfOk result (λ table. (all : List Row) × AreRowsOf search.now.snapshot.now instances.now all × Accepted search.now.snapshot.now (cond_of search.now.assumed.now) all) }
-    ensures lays { IfOk result (λ table. Lays (length instances.now) search.now.snapshot.now instances.now 1 search.now.input.now [] table.rows) }
+    ensures { IfOk result (λ table. Lays (length instances.now) search.now.snapshot.now instances.now 1 search.now.input.now [] table.rows) }
 {
-    let all = Table {
-        rows: Items::from_vec(all_rows(alloc, search, instances)?),
-    };
-    look_through(search, &all)?;
-    let table = Table {
-        rows: Items::from_vec(rows_in_order(alloc, search, instances)?),
-    };
-    look_through(search, &table)?;
-    Ok(table)
+    let rows = rows_in_order(alloc, search, instances)?;
+    Ok(Table {
+        rows: Items::from_vec(rows),
+    })
 }
 
 /// The least accepted table of an entry and a box, with threshold states at its loops. It fails only for want of memory.

@@ -4,7 +4,7 @@ use Rattle.std.specs.List.{All, AllZip}
 use Rattle.std.proofs.lemmas.Slice.Zip.{AllZip-long}
 use Rattle.vmv_tree.specs.Tree.{Item}
 use Rattle.vmv_cond.specs.declared.cond.Cond.{Cond}
-use Rattle.vmv_cond.specs.Cond.{IsSubset}
+use Rattle.vmv_cond.specs.Cond.{IsSubset, Holds as HoldsWord}
 use Rattle.vmv_snapshot.specs.declared.code.ProcId.{ProcId}
 use Rattle.vmv_snapshot.specs.declared.code.Code.{Code}
 use Rattle.vmv_snapshot.specs.declared.code.CodeStmt.{CodeStmt}
@@ -13,10 +13,9 @@ use Rattle.vmv_snapshot.specs.Procs.{params_of}
 use Rattle.vmv_snapshot.specs.Tables.{body_sites}
 use Rattle.vmv_snapshot.specs.Resolution.{Resolution, tree_of, IsResolution}
 use Rattle.vmv_zone.specs.declared.zone.Zone.{Zone}
-use Rattle.vmv_zone.specs.Zone.{vars_of, IsBelow, IsNormal}
+use Rattle.vmv_zone.specs.Zone.{vars_of, IsNormal}
 use Rattle.vmv_zone.specs.Operand.{IsOperand}
 use Rattle.vmv_zone.specs.Read.{IsRangeOf}
-use Rattle.vmv_zone.proofs.States.{below_trans}
 use Rattle.vmv_zone.proofs.MoreLaws.{range_mono}
 use Rattle.vmv_step.specs.Zones.{zone_operand, IsInside}
 use Rattle.vmv_step.specs.Enter.{declared_count, IsEntered}
@@ -25,13 +24,13 @@ use Rattle.vmv_step.proofs.EnterPoints.{enter_mono}
 use Rattle.vmv_cert.specs.declared.row.Reach.{Reach}
 use Rattle.vmv_cert.specs.declared.row.Reach.TheVariants.{Bottom, Value}
 use Rattle.vmv_cert.specs.Sizes.{block_loops}
-use Rattle.vmv_cert.specs.Walk.{Walk}
 use Rattle.vmv_cert.specs.Tables.{IsAbove}
 use Rattle.vmv_check.specs.Walker.{HasParams, AreReady}
 use Rattle.vmv_check.proofs.Codes.{code_ready}
 use Rattle.vmv_check.proofs.Lists.{some_same}
 use Rattle.vmv_pass.specs.Callees.{block_callees}
-use Rattle.vmv_pass.specs.Settles.{Stored, SettlesBody}
+use Rattle.vmv_pass.specs.Source.{Stored, Source, by_row, by_stored, input_in, result_in, TellsRange}
+use Rattle.vmv_pass.specs.Holds.{Settles}
 use Rattle.vmv_pass.specs.Upper.{IsProc, Fits, AreBelow, IsUnder, IsUpper}
 use Rattle.vmv_pass.specs.Moves.{Given, Lists, MovesAll, AreCalled, HasKeeps, HaveSites}
 use Rattle.vmv_pass.proofs.Zips.{get_map}
@@ -41,6 +40,7 @@ use Rattle.vmv_pass.proofs.Growing.{Counted, counts, Unchanged, stays, IsRise, S
 use Rattle.vmv_pass.proofs.Under.{Setting, under_block}
 use Rattle.vmv_pass.proofs.Falling.{all_room, IsPaid, Falls, falls}
 use Rattle.vmv_pass.proofs.Settling.{block_settles}
+use Rattle.vmv_pass.proofs.Calls.{AreAt}
 
 -- what is known of a procedure and its code
 pub record Facts (program : Resolution) (item : Item) (code : Code) : Type 0 where
@@ -173,13 +173,14 @@ run_fits program item code given input start end range S S' run =
     }
 
 pub run_settles : (program : Resolution) (item : Item) (code : Code) (given : Given) (input start end : Zone) (range : Cond) (S S' : Lists) → Run program item code given input start end range S S' → IsFalse S'.raised →
-    SettlesBody (stored_in given S') item code input range
+    Settles (stored_in given S') item code input range
 run_settles program item code given input start end range S S' run still =
     let f = run_fits program item code given input start end range S S' run in
     let long = f.unproved in
     let count = run.facts.count in
-    let s = block_settles (stored_in given S') given 0 0 0 (block_of code.block) start end S S' refl refl run.facts.known (omega (arith, long, count)) (record { keeps = refl; inputs = refl; raised = still }) (λ i from to. refl) run.moves in
-    record { start = start; entered = run.entered; end = end; settles = s.settles; read = run.read }
+    let s = block_settles input range (stored_in given S') given 0 0 0 (block_of code.block) start end S S' refl refl run.facts.known (omega (arith, long, count)) (record { keeps = refl; inputs = refl; raised = still }) (λ i from to. refl) run.moves in
+    let whole : AreAt s.calls 0 s.calls = λ i x at. subst (λ j. slice_get s.calls j ≡ Some x) (let z : i ≡ 0 + i = omega arith in z) at in
+    (end, s.calls, record { count = s.count; start = start; entered = run.entered; holds = s.walks s.calls whole; range = range; read = run.read; told = refl })
 
 pub run_falls : (program : Resolution) (item : Item) (code : Code) (given : Given) (input start end : Zone) (range : Cond) (S S' : Lists) → Run program item code given input start end range S S' → IsTrue S'.raised → all_room S' < all_room S
 run_falls program item code given input start end range S S' run raised =
@@ -198,22 +199,25 @@ above_less : (r : Reach) (c d : Cond) → IsSubset c d → IsAbove r d → IsAbo
 above_less Bottom c d sub above = λ word holds. above word (sub word holds)
 above_less (Value x) c d sub above = λ word holds. above word (sub word holds)
 
-pub run_under : (program : Resolution) (n : ℕ) (item : Item) (code : Code) (given : Given) (input start end : Zone) (range : Cond) (S S' : Lists) (w : Walk) (e : Zone) (calls : List (Option Zone)) →
-    Run program item code given input start end range S S' → input.vars ≡ length (params_of item) → IsUpper program n given.thresholds input (stored_in given S) w item code e calls → IsUnder w calls (stored_in given S) →
-    IsUnder w calls (stored_in given S') × IsAbove w.row.result range
-run_under program n item code given input start end range S S' w e calls run size upper under =
+-- the range that is told is below the result
+told_above : (source : Source) (range : Cond) → TellsRange source range → IsAbove (result_in source) range
+told_above (by_row w) range told = told
+told_above (by_stored input stored_range stored) range told = λ word held. subst (λ (c : Cond). HoldsWord c word) told held
+
+pub run_under : (program : Resolution) (n : ℕ) (item : Item) (code : Code) (given : Given) (input start end : Zone) (range : Cond) (S S' : Lists) (source : Source) (e : Zone) (calls : List (Option Zone)) →
+    Run program item code given input start end range S S' → input.vars ≡ length (params_of item) → IsUpper program n given.thresholds input (stored_in given S) source item code e calls → IsUnder source calls (stored_in given S) →
+    IsUnder source calls (stored_in given S') × IsAbove (result_in source) range
+run_under program n item code given input start end range S S' source e calls run size upper under =
     let row = upper.holds in
-    let form = upper.formed in
-    let below : IsBelow input w.row.input = below_trans input upper.normed w.row.input upper.norm.vars upper.above upper.norm.below in
-    let starts = enter_mono (length (params_of item)) (declared_count item) code.vars input w.row.input start row.start size form.input run.facts.params run.entered row.entered below in
-    let set : Setting code.vars given w calls (block_callees (block_of code.block)) =
-    record { assumed = upper.assumed; over = form.over; thresholds = upper.thresholds; results = upper.results } in
-    let b = under_block program code.vars (map vars_of S.inputs) given w calls (block_callees (block_of code.block)) set 0 0 0 (block_of code.block) start end row.start e S S' run.facts.ready run.facts.known
+    let starts = enter_mono (length (params_of item)) (declared_count item) code.vars input (input_in source) start row.start size upper.params run.facts.params run.entered row.entered upper.above in
+    let set : Setting code.vars given source calls (block_callees (block_of code.block)) =
+    record { assumed = upper.assumed; over = upper.over; thresholds = upper.thresholds; results = upper.results } in
+    let b = under_block program code.vars (map vars_of S.inputs) given source calls (block_callees (block_of code.block)) set 0 0 0 (block_of code.block) start end row.start e S S' run.facts.ready run.facts.known
     (fits_called program (block_callees (block_of code.block)) S.inputs run.fits.inputs)
     (λ i callee at. subst (λ j. slice_get (block_callees (block_of code.block)) j ≡ Some callee) (let z : i ≡ 0 + i = omega arith in z) at)
     (record { over = run.fits.over; inputs = refl }) (record { keeps = under.keeps; inputs = under.inputs; unproved = under.unproved }) run.entered.vars row.entered.vars starts run.moves row.holds in
     let u = b.under in (
       record { keeps = u.keeps; inputs = u.inputs; unproved = u.unproved },
-      above_less w.row.result range row.range
-          (range_mono end e (zone_operand code.result) range row.range (b.size ∙ sym b.size') (subst (λ v. IsOperand v (zone_operand code.result)) (sym b.size') run.facts.output) run.read row.read b.below) row.above,
+      above_less (result_in source) range row.range
+          (range_mono end e (zone_operand code.result) range row.range (b.size ∙ sym b.size') (subst (λ v. IsOperand v (zone_operand code.result)) (sym b.size') run.facts.output) run.read row.read b.below) (told_above source row.range row.told),
     )

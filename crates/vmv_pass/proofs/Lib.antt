@@ -11,3 +11,4 @@ pub mod Falling
 pub mod Settling
 pub mod Calls
 pub mod Bodies
+pub mod Telling

@@ -1,5 +1,5 @@
 -- A pass that raises nothing is the walk over what is stored.
-use Rattle.std.proofs.Common.{◌≡◌, ◌⊎◌, inl, inr, ⊎_elim, ℕ, ◌+◌, ◌-◌, ◌<◌, ◌≤◌, Bool, true, IsFalse, Some, List, [], length, slice_get, slice_set, refl, sym, ap, subst, arith, ◌∙◌}
+use Rattle.std.proofs.Common.{◌≡◌, ◌⊎◌, inl, inr, ⊎_elim, ℕ, ◌+◌, ◌-◌, ◌<◌, ◌≤◌, Bool, true, IsFalse, Option, Some, None, List, [], ◌∷◌, ◌++◌, length, slice_get, slice_set, refl, sym, ap, subst, arith, ◌∙◌}
 use Rattle.vmv_snapshot.specs.declared.code.Simple.{Simple}
 use Rattle.vmv_snapshot.specs.declared.code.Simple.TheVariants.{Set, Arith, Ask, Assert}
 use Rattle.vmv_snapshot.specs.Code.{Stmt, plain, help, branch, loop, Block, [], ◌⨾◌}
@@ -14,9 +14,11 @@ use Rattle.vmv_step.specs.Agree.{HasSite}
 use Rattle.vmv_cert.specs.Sizes.{loops, block_loops}
 use Rattle.vmv_check.proofs.Lists.{some_same, item_at}
 use Rattle.vmv_pass.specs.Callees.{callees, block_callees}
-use Rattle.vmv_pass.specs.Settles.{Stored, Settles, SettlesAll}
+use Rattle.vmv_pass.specs.Source.{Stored, by_stored}
+use Rattle.vmv_pass.proofs.Calls.{AreAt, at_here, at_first, at_second}
+use Rattle.vmv_pass.specs.Holds.{Holds, HoldsAll}
 use Rattle.vmv_pass.specs.Moves.{Given, Lists, flagged, Keeps, Takes, Moves, MovesAll}
-use Rattle.vmv_pass.proofs.Zips.{set_same, set_other, set_cases}
+use Rattle.vmv_pass.proofs.Zips.{set_same, set_other, set_cases, append_long}
 use Rattle.vmv_pass.proofs.Codes.{IsKnown, AreKnown, simple_sites, sites, block_sites}
 
 keeps_flags : (given : Given) (k : ℕ) (seen kept : Zone) (S S' : Lists) → Keeps given k seen S kept S' → S'.unproved ≡ S.unproved
@@ -135,45 +137,64 @@ simple_settles stored m (Assert test site) flag flags known room agree n has =
     let one : slice_get stored.unproved (site - 1) ≡ Some flag = flag_settles stored flags (site - 1) flag (omega arith) (agree (site - 1) (omega arith) (omega arith)) in
     subst (λ j. slice_get stored.unproved (j - 1) ≡ Some flag) has one
 
--- what is so before a pass that raises nothing
-pub record Settled (stored : Stored) (S : Lists) (Walks : Type 0) : Type 0 where
+-- what is so before a pass that raises nothing, and the calls that the walk meets, the first being the c-th
+pub record Settled (stored : Stored) (S : Lists) (c n : ℕ) (Walks : List (Option Zone) → Type 0) : Type 0 where
   pub final : IsFinal stored S
-  pub settles : Walks
+  pub calls : List (Option Zone)
+  pub count : length calls ≡ n
+  pub walks : (whole : List (Option Zone)) → AreAt whole c calls → Walks whole
 
 mutual
-  stmt_settles : (stored : Stored) (given : Given) (m k c : ℕ) (s : Stmt) (z e : Zone) (S S' : Lists) → stored.assumed ≡ given.assumed → stored.results ≡ given.results → IsKnown m s → m + sites s ≤ length stored.unproved →
-      IsFinal stored S' → Agree stored S'.unproved m (sites s) → Moves given k c s z S e S' → Settled stored S (Settles stored k c s z e)
-  stmt_settles stored given m k c (plain simple) z e S S' same results known room final agree (s, stepped, end, is) =
+  stmt_settles : (input : Zone) (range : Cond) (stored : Stored) (given : Given) (m k c : ℕ) (s : Stmt) (z e : Zone) (S S' : Lists) → stored.assumed ≡ given.assumed → stored.results ≡ given.results → IsKnown m s → m + sites s ≤ length stored.unproved →
+      IsFinal stored S' → Agree stored S'.unproved m (sites s) → Moves given k c s z S e S' → Settled stored S c (length (callees s)) (λ whole. Holds (by_stored input range stored) whole k c s z e)
+  stmt_settles input range stored given m k c (plain simple) z e S S' same results known room final agree (s, stepped, end, is) =
       let f : IsFinal stored (record S { unproved = flagged simple s.unproved S.unproved }) = subst (IsFinal stored) is final in
       let flags : S'.unproved ≡ flagged simple s.unproved S.unproved = ap (λ (T : Lists). T.unproved) is in
       record {
         final = record { keeps = f.keeps; inputs = f.inputs; raised = f.raised };
-        settles = (
+        calls = [];
+        count = refl;
+        walks = λ whole at. (
           s,
           subst (λ (A : Assumed). IsStepped simple A z s) (sym same) stepped,
           simple_settles stored m simple s.unproved S.unproved known.1 room (subst (λ (fs : List Bool). Agree stored fs m (simple_sites simple)) flags agree),
           end,
         );
       }
-  stmt_settles stored given m k c (help to callee codes) z e S S' same results known room final agree (inl (bottom, end, is)) =
-      record { final = subst (IsFinal stored) is final; settles = inl (bottom, end) }
-  stmt_settles stored given m k c (help to callee codes) z e S S' same results known room final agree (inr (some, (args, cond, is, takes, at, assigned))) =
+  stmt_settles input range stored given m k c (help to callee codes) z e S S' same results known room final agree (inl (bottom, end, is)) =
+      record { final = subst (IsFinal stored) is final; calls = None ∷ []; count = refl; walks = λ whole at. inl (bottom, at_here whole c None at, end) }
+  stmt_settles input range stored given m k c (help to callee codes) z e S S' same results known room final agree (inr (some, (args, cond, is, takes, at, assigned))) =
       let t = take_settles stored c args S S' final takes in
-      record { final = t.final; settles = inr (some, (args, t.input, cond, is, t.at, t.below, ap (λ (cs : List Cond). slice_get cs c) results ∙ at, assigned)) }
-  stmt_settles stored given m k c (branch test first second) z e S S' same results known room final agree (z1, z2, e1, e2, S1, is, one, two, join) =
+      record {
+        final = t.final;
+        calls = Some args ∷ [];
+        count = refl;
+        walks = λ whole there. inr (some, (args, cond, is, at_here whole c (Some args) there, (t.input, t.at, t.below, ap (λ (cs : List Cond). slice_get cs c) results ∙ at), assigned));
+      }
+  stmt_settles input range stored given m k c (branch test first second) z e S S' same results known room final agree (z1, z2, e1, e2, S1, is, one, two, join) =
       let a = block_sites first in
-      let b = block_settles stored given (m + a) (k + block_loops first) (c + length (block_callees first)) second z2 e2 S1 S' same results known.1 (omega arith) final (λ i from to. agree i (omega arith) (omega arith)) two in
-      let d = block_settles stored given m k c first z1 e1 S S1 same results known.0 (omega arith) b.final
-      (λ i from to. agree i from (omega arith) ∙ block_outside given (m + a) (k + block_loops first) (c + length (block_callees first)) second z2 e2 S1 S' known.1 two i (inl to)) one in
-      record { final = d.final; settles = (z1, z2, e1, e2, is, d.settles, b.settles, join) }
-  stmt_settles stored given m k c (loop index slot bound most site body) z e S S' same results known room final agree
+      let n = length (block_callees first) in
+      let b = block_settles input range stored given (m + a) (k + block_loops first) (c + n) second z2 e2 S1 S' same results known.1 (omega arith) final (λ i from to. agree i (omega arith) (omega arith)) two in
+      let d = block_settles input range stored given m k c first z1 e1 S S1 same results known.0 (omega arith) b.final
+      (λ i from to. agree i from (omega arith) ∙ block_outside given (m + a) (k + block_loops first) (c + n) second z2 e2 S1 S' known.1 two i (inl to)) one in
+      let t = d.count in
+      let t' = b.count in
+      let u = append_long d.calls b.calls in
+      let v = append_long (block_callees first) (block_callees second) in
+      record {
+        final = d.final;
+        calls = d.calls ++ b.calls;
+        count = omega arith;
+        walks = λ whole at. (z1, z2, e1, e2, is, d.walks whole (at_first whole c d.calls b.calls at), b.walks whole (at_second whole c n d.calls b.calls t at), join);
+      }
+  stmt_settles input range stored given m k c (loop index slot bound most site body) z e S S' same results known room final agree
       (s, kept, normed, turned, end, again, last, left, S1, S2, is, first, norm, turn, inside, more, second, rest, leave) =
       let S0 : Lists = record S { unproved = slice_set S.unproved (site - 1) s.unproved } in
       let number = known.0 in
       let v = keep_settles stored given k again last S2 S' final second in
       let same_flags : S'.unproved ≡ S2.unproved = keeps_flags given k again last S2 S' second in
       let agree2 : Agree stored S2.unproved m (1 + block_sites body) = subst (λ (fs : List Bool). Agree stored fs m (1 + block_sites body)) same_flags agree in
-      let b = block_settles stored given (m + 1) (k + 1) c body turned end S1 S2 same results known.1 (omega arith) v.final (λ i from to. agree2 i (omega arith) (omega arith)) inside in
+      let b = block_settles input range stored given (m + 1) (k + 1) c body turned end S1 S2 same results known.1 (omega arith) v.final (λ i from to. agree2 i (omega arith) (omega arith)) inside in
       let u = keep_settles stored given k s.zone kept S0 S1 b.final first in
       let f = u.final in
       let one : last ≡ kept = some_same (sym v.at ∙ u.at) in
@@ -183,7 +204,9 @@ mutual
       let norms : left ≡ normed = norm_once kept left normed (subst (λ (x : Zone). IsNormOf x left) one rest) norm in
       record {
         final = record { keeps = f.keeps; inputs = f.inputs; raised = f.raised };
-        settles = (
+        calls = b.calls;
+        count = b.count;
+        walks = λ whole at. (
           s,
           kept,
           normed,
@@ -196,19 +219,29 @@ mutual
           u.below,
           norm,
           turn,
-          b.settles,
+          b.walks whole at,
           more,
           subst (IsBelow again) one v.below,
           subst (λ (x : Zone). IsLeft index slot x e) norms leave,
         );
       }
 
-  pub block_settles : (stored : Stored) (given : Given) (m k c : ℕ) (b : Block) (z e : Zone) (S S' : Lists) → stored.assumed ≡ given.assumed → stored.results ≡ given.results → AreKnown m b → m + block_sites b ≤ length stored.unproved →
-      IsFinal stored S' → Agree stored S'.unproved m (block_sites b) → MovesAll given k c b z S e S' → Settled stored S (SettlesAll stored k c b z e)
-  block_settles stored given m k c [] z e S S' same results known room final agree (end, is) = record { final = subst (IsFinal stored) is final; settles = end }
-  block_settles stored given m k c (s ⨾ rest) z e S S' same results known room final agree (x, S1, one, two) =
+  pub block_settles : (input : Zone) (range : Cond) (stored : Stored) (given : Given) (m k c : ℕ) (b : Block) (z e : Zone) (S S' : Lists) → stored.assumed ≡ given.assumed → stored.results ≡ given.results → AreKnown m b → m + block_sites b ≤ length stored.unproved →
+      IsFinal stored S' → Agree stored S'.unproved m (block_sites b) → MovesAll given k c b z S e S' → Settled stored S c (length (block_callees b)) (λ whole. HoldsAll (by_stored input range stored) whole k c b z e)
+  block_settles input range stored given m k c [] z e S S' same results known room final agree (end, is) = record { final = subst (IsFinal stored) is final; calls = []; count = refl; walks = λ whole at. end }
+  block_settles input range stored given m k c (s ⨾ rest) z e S S' same results known room final agree (x, S1, one, two) =
       let a = sites s in
-      let b = block_settles stored given (m + a) (k + loops s) (c + length (callees s)) rest x e S1 S' same results known.1 (omega arith) final (λ i from to. agree i (omega arith) (omega arith)) two in
-      let d = stmt_settles stored given m k c s z x S S1 same results known.0 (omega arith) b.final
-      (λ i from to. agree i from (omega arith) ∙ block_outside given (m + a) (k + loops s) (c + length (callees s)) rest x e S1 S' known.1 two i (inl to)) one in
-      record { final = d.final; settles = (x, d.settles, b.settles) }
+      let n = length (callees s) in
+      let b = block_settles input range stored given (m + a) (k + loops s) (c + n) rest x e S1 S' same results known.1 (omega arith) final (λ i from to. agree i (omega arith) (omega arith)) two in
+      let d = stmt_settles input range stored given m k c s z x S S1 same results known.0 (omega arith) b.final
+      (λ i from to. agree i from (omega arith) ∙ block_outside given (m + a) (k + loops s) (c + n) rest x e S1 S' known.1 two i (inl to)) one in
+      let t = d.count in
+      let t' = b.count in
+      let u = append_long d.calls b.calls in
+      let v = append_long (callees s) (block_callees rest) in
+      record {
+        final = d.final;
+        calls = d.calls ++ b.calls;
+        count = omega arith;
+        walks = λ whole at. (x, d.walks whole (at_first whole c d.calls b.calls at), b.walks whole (at_second whole c n d.calls b.calls t at));
+      }

@@ -1,8 +1,6 @@
 -- A pass over what is below a walk that holds leaves it below.
-use Rattle.std.proofs.Common.{◌≡◌, inl, inr, ⊎_elim, ℕ, ◌+◌, ◌-◌, ◌≤◌, Bool, true, IsTrue, Option, Some, List, [], ◌++◌, length, map, slice_get, slice_set, refl, sym, ap, subst, arith, ◌∙◌, ℤ}
+use Rattle.std.proofs.Common.{◌≡◌, inl, inr, ⊎_elim, ℕ, ◌+◌, ◌-◌, ◌≤◌, Bool, true, IsTrue, Option, Some, List, [], ◌++◌, length, map, slice_get, slice_set, refl, sym, ap, subst, arith, ◌∙◌}
 use Rattle.std.specs.List.{All, AllZip}
-use Rattle.vmv_cond.specs.declared.cond.Cond.{Cond}
-use Rattle.vmv_cond.specs.Cond.{Holds as HoldsWord}
 use Rattle.vmv_snapshot.specs.declared.code.Slot.{Slot}
 use Rattle.vmv_snapshot.specs.declared.code.ProcId.{ProcId}
 use Rattle.vmv_snapshot.specs.declared.code.CodeOperand.{CodeOperand}
@@ -25,11 +23,8 @@ use Rattle.vmv_step.specs.Steps.{IsSimpleInside}
 use Rattle.vmv_step.specs.Agree.{HasSite}
 use Rattle.vmv_step.proofs.Arguments.{pass_mono, pass_normal}
 use Rattle.vmv_step.proofs.StepOrder.{step_mono, branch_mono, head_mono, turn_mono, again_mono, leave_mono}
-use Rattle.vmv_cert.specs.declared.row.Reach.{Reach}
-use Rattle.vmv_cert.specs.declared.row.Reach.TheVariants.{Bottom, Value}
 use Rattle.vmv_cert.specs.Sizes.{loops, block_loops}
-use Rattle.vmv_cert.specs.Tables.{IsAbove}
-use Rattle.vmv_cert.specs.Walk.{Walk, Returns, ListsOwn, IsAllowed}
+use Rattle.vmv_pass.specs.Source.{Source, by_row, by_stored, assumed_in, keeps_in, TellsSite, TellsUnproved}
 use Rattle.vmv_check.specs.Walker.{IsReady, AreReady}
 use Rattle.vmv_check.proofs.Lists.{some_same}
 use Rattle.vmv_check.proofs.Walking.{assigned_vars, after_vars, head_vars}
@@ -42,86 +37,87 @@ use Rattle.vmv_pass.proofs.Codes.{IsKnown, AreKnown, sites, block_sites}
 use Rattle.vmv_pass.proofs.Moving.{Base, keep_base, take_base, called_first, called_second, called_size}
 
 -- the walk is over the same variables and threshold states, under conditions that are above, and above the stored results
-pub record Setting (vars : ℕ) (given : Given) (w : Walk) (calls : List (Option Zone)) (whole : List ProcId) : Type 0 where
-  pub assumed : IsLess given.assumed w.assumed
-  pub over : All (λ (z : Zone). z.vars ≡ vars) w.row.keeps
-  pub thresholds : All (IsThresholdState given.thresholds) w.row.keeps
-  pub results : AreResultsUnder w whole calls given.results
+pub record Setting (vars : ℕ) (given : Given) (source : Source) (calls : List (Option Zone)) (whole : List ProcId) : Type 0 where
+  pub assumed : IsLess given.assumed (assumed_in source)
+  pub over : All (λ (z : Zone). z.vars ≡ vars) (keeps_in source)
+  pub thresholds : All (IsThresholdState given.thresholds) (keeps_in source)
+  pub results : AreResultsUnder source whole calls given.results
 
 -- the lists are below the walk
-pub record Under (w : Walk) (calls : List (Option Zone)) (S : Lists) : Type 0 where
-  pub keeps : AllZip IsBelow S.keeps w.row.keeps
+pub record Under (source : Source) (calls : List (Option Zone)) (S : Lists) : Type 0 where
+  pub keeps : AllZip IsBelow S.keeps (keeps_in source)
   pub inputs : AllZip IsBelowCall S.inputs calls
-  pub unproved : (i : ℕ) → slice_get S.unproved i ≡ Some true → ListsOwn w.row (i + 1)
+  pub unproved : (i : ℕ) → slice_get S.unproved i ≡ Some true → TellsUnproved source (i + 1)
 
-flag_under : (w : Walk) (calls : List (Option Zone)) (S : Lists) (site : ℕ) (flag : Bool) → 1 ≤ site → (IsTrue flag → ListsOwn w.row site) → Under w calls S → Under w calls (record S { unproved = slice_set S.unproved (site - 1) flag })
-flag_under w calls S site flag from listed under = record {
+-- a site that is told with its flag is told to be unproved where it is
+told_unproved : (source : Source) (number : ℕ) (flag : Bool) → TellsSite source number flag → IsTrue flag → TellsUnproved source number
+told_unproved (by_row w) number flag told up = told up
+told_unproved (by_stored input range stored) number flag told up = told ∙ ap (λ b. Some b) up
+
+flag_under : (source : Source) (calls : List (Option Zone)) (S : Lists) (site : ℕ) (flag : Bool) → 1 ≤ site → (IsTrue flag → TellsUnproved source site) → Under source calls S → Under source calls (record S { unproved = slice_set S.unproved (site - 1) flag })
+flag_under source calls S site flag from listed under = record {
   keeps = under.keeps;
   inputs = under.inputs;
   unproved = λ i e.
-      ⊎_elim (λ (h : (i ≡ site - 1) × (flag ≡ true)). (let s : site ≡ i + 1 = (let n = h.0 in omega arith) in subst (ListsOwn w.row) s (listed h.1)))
+      ⊎_elim (λ (h : (i ≡ site - 1) × (flag ≡ true)). (let s : site ≡ i + 1 = (let n = h.0 in omega arith) in subst (TellsUnproved source) s (listed h.1)))
       (λ (h : slice_get S.unproved i ≡ Some true). under.unproved i h) (set_cases S.unproved (site - 1) i flag true e);
 }
 
-flag_simple : (w : Walk) (calls : List (Option Zone)) (S : Lists) (m : ℕ) (simple : Simple) (s s' : Stepped) → ((n : ℕ) → HasSite simple n → n ≡ m + 1) → IsAllowed w.row simple s' → (IsTrue s.unproved → IsTrue s'.unproved) → Under w calls S →
-    Under w calls (record S { unproved = flagged simple s.unproved S.unproved })
-flag_simple w calls S m (Set to from) s s' known allowed up under = record { keeps = under.keeps; inputs = under.inputs; unproved = under.unproved }
-flag_simple w calls S m (Arith to op left right site) s s' known allowed up under =
-    let e = known site refl in flag_under w calls S site s.unproved (omega arith) (λ t. allowed (up t) site refl) under
-flag_simple w calls S m (Ask to callee args) s s' known allowed up under = record { keeps = under.keeps; inputs = under.inputs; unproved = under.unproved }
-flag_simple w calls S m (Assert test site) s s' known allowed up under =
-    let e = known site refl in flag_under w calls S site s.unproved (omega arith) (λ t. allowed (up t) site refl) under
+flag_simple : (source : Source) (calls : List (Option Zone)) (S : Lists) (m : ℕ) (simple : Simple) (s s' : Stepped) → ((n : ℕ) → HasSite simple n → n ≡ m + 1) → ((n : ℕ) → HasSite simple n → TellsSite source n s'.unproved) → (IsTrue s.unproved → IsTrue s'.unproved) → Under source calls S →
+    Under source calls (record S { unproved = flagged simple s.unproved S.unproved })
+flag_simple source calls S m (Set to from) s s' known allowed up under = record { keeps = under.keeps; inputs = under.inputs; unproved = under.unproved }
+flag_simple source calls S m (Arith to op left right site) s s' known allowed up under =
+    let e = known site refl in flag_under source calls S site s.unproved (omega arith) (λ t. told_unproved source site s'.unproved (allowed site refl) (up t)) under
+flag_simple source calls S m (Ask to callee args) s s' known allowed up under = record { keeps = under.keeps; inputs = under.inputs; unproved = under.unproved }
+flag_simple source calls S m (Assert test site) s s' known allowed up under =
+    let e = known site refl in flag_under source calls S site s.unproved (omega arith) (λ t. told_unproved source site s'.unproved (allowed site refl) (up t)) under
 
 -- a state at a loop, below the walk's
-record KeptUnder (w : Walk) (calls : List (Option Zone)) (kept top : Zone) (S' : Lists) : Type 0 where
-  under : Under w calls S'
+record KeptUnder (source : Source) (calls : List (Option Zone)) (kept top : Zone) (S' : Lists) : Type 0 where
+  under : Under source calls S'
   below : IsBelow kept top
 
-keep_under : (vars : ℕ) (sizes : List ℕ) (given : Given) (w : Walk) (calls : List (Option Zone)) (whole : List ProcId) (k : ℕ) (seen kept top : Zone) (S S' : Lists) → Setting vars given w calls whole → Base vars sizes S →
-    Under w calls S → slice_get w.row.keeps k ≡ Some top → IsBelow seen top → Keeps given k seen S kept S' → KeptUnder w calls kept top S'
-keep_under vars sizes given w calls whole k seen kept top S S' set base under at' low (old, at, inl (below, same, is)) = record {
-  under = subst (Under w calls) (sym is) under;
-  below = subst (λ (x : Zone). IsBelow x top) (sym same) (zip_at IsBelow S.keeps w.row.keeps k old top under.keeps at at');
+keep_under : (vars : ℕ) (sizes : List ℕ) (given : Given) (source : Source) (calls : List (Option Zone)) (whole : List ProcId) (k : ℕ) (seen kept top : Zone) (S S' : Lists) → Setting vars given source calls whole → Base vars sizes S →
+    Under source calls S → slice_get (keeps_in source) k ≡ Some top → IsBelow seen top → Keeps given k seen S kept S' → KeptUnder source calls kept top S'
+keep_under vars sizes given source calls whole k seen kept top S S' set base under at' low (old, at, inl (below, same, is)) = record {
+  under = subst (Under source calls) (sym is) under;
+  below = subst (λ (x : Zone). IsBelow x top) (sym same) (zip_at IsBelow S.keeps (keeps_in source) k old top under.keeps at at');
 }
-keep_under vars sizes given w calls whole k seen kept top S S' set base under at' low (old, at, inr (above, (both, join, round, is))) =
+keep_under vars sizes given source calls whole k seen kept top S S' set base under at' low (old, at, inr (above, (both, join, round, is))) =
     let size : old.vars ≡ vars = all_at (λ (z : Zone). z.vars ≡ vars) S.keeps k old base.over at in
-    let size' : top.vars ≡ vars = all_at (λ (z : Zone). z.vars ≡ vars) w.row.keeps k top set.over at' in
-    let one : IsBelow both top = join.least top (size' ∙ sym size) (zip_at IsBelow S.keeps w.row.keeps k old top under.keeps at at') low in
-    let two : IsBelow kept top = round.least top (size' ∙ sym (join.vars ∙ size)) (all_at (IsThresholdState given.thresholds) w.row.keeps k top set.thresholds at') one in
+    let size' : top.vars ≡ vars = all_at (λ (z : Zone). z.vars ≡ vars) (keeps_in source) k top set.over at' in
+    let one : IsBelow both top = join.least top (size' ∙ sym size) (zip_at IsBelow S.keeps (keeps_in source) k old top under.keeps at at') low in
+    let two : IsBelow kept top = round.least top (size' ∙ sym (join.vars ∙ size)) (all_at (IsThresholdState given.thresholds) (keeps_in source) k top set.thresholds at') one in
     record {
-      under = subst (Under w calls) (sym is) (record { keeps = zip_set_left IsBelow S.keeps w.row.keeps k kept top under.keeps at' two; inputs = under.inputs; unproved = under.unproved });
+      under = subst (Under source calls) (sym is) (record { keeps = zip_set_left IsBelow S.keeps (keeps_in source) k kept top under.keeps at' two; inputs = under.inputs; unproved = under.unproved });
       below = two;
     }
 
-take_under : (vars : ℕ) (sizes : List ℕ) (w : Walk) (calls : List (Option Zone)) (c : ℕ) (args top : Zone) (S S' : Lists) → Under w calls S → slice_get calls c ≡ Some (Some top) → top.vars ≡ args.vars →
-    ((old : Zone) → slice_get S.inputs c ≡ Some old → old.vars ≡ args.vars) → IsBelow args top → Takes c args S S' → Under w calls S'
-take_under vars sizes w calls c args top S S' under at' same size low (old, at, inl (below, is)) = subst (Under w calls) (sym is) under
-take_under vars sizes w calls c args top S S' under at' same size low (old, at, inr (above, (both, input, join, norm, is))) =
+take_under : (vars : ℕ) (sizes : List ℕ) (source : Source) (calls : List (Option Zone)) (c : ℕ) (args top : Zone) (S S' : Lists) → Under source calls S → slice_get calls c ≡ Some (Some top) → top.vars ≡ args.vars →
+    ((old : Zone) → slice_get S.inputs c ≡ Some old → old.vars ≡ args.vars) → IsBelow args top → Takes c args S S' → Under source calls S'
+take_under vars sizes source calls c args top S S' under at' same size low (old, at, inl (below, is)) = subst (Under source calls) (sym is) under
+take_under vars sizes source calls c args top S S' under at' same size low (old, at, inr (above, (both, input, join, norm, is))) =
     let e : top.vars ≡ old.vars = same ∙ sym (size old at) in
     let one : IsBelow both top = join.least top e (zip_at IsBelowCall S.inputs calls c old (Some top) under.inputs at at') low in
     let two : IsBelow input top = below_trans input both top (join.vars ∙ sym e) norm.below one in
-    subst (Under w calls) (sym is)
+    subst (Under source calls) (sym is)
     (record { keeps = under.keeps; inputs = zip_set_left IsBelowCall S.inputs calls c input (Some top) under.inputs at' two; unproved = under.unproved })
-
-returns_of : (r : Reach) (c : Cond) (word : ℤ) → IsAbove r c → HoldsWord c word → Returns r word
-returns_of Bottom c word above holds = absurd (above word holds)
-returns_of (Value d) c word above holds = above word holds
 
 -- the callees stand in the whole list from the c-th on
 abbrev pub AreIn : List ProcId → ℕ → List ProcId → Type 0
 AreIn whole c xs = (i : ℕ) (callee : ProcId) → slice_get xs i ≡ Some callee → slice_get whole (c + i) ≡ Some callee
 
-in_one : (whole : List ProcId) (c : ℕ) (xs ys : List ProcId) → AreIn whole c (xs ++ ys) → AreIn whole c xs
+pub in_one : (whole : List ProcId) (c : ℕ) (xs ys : List ProcId) → AreIn whole c (xs ++ ys) → AreIn whole c xs
 in_one whole c xs ys are i callee at = are i callee (in_first xs ys i callee at)
 
-in_two : (whole : List ProcId) (c : ℕ) (xs ys : List ProcId) → AreIn whole c (xs ++ ys) → AreIn whole (c + length xs) ys
+pub in_two : (whole : List ProcId) (c : ℕ) (xs ys : List ProcId) → AreIn whole c (xs ++ ys) → AreIn whole (c + length xs) ys
 in_two whole c xs ys are i callee at =
     let s : c + (length xs + i) ≡ (c + length xs) + i = omega arith in
     subst (λ j. slice_get whole j ≡ Some callee) s (are (length xs + i) callee (in_second xs ys i callee at))
 
 -- what is so behind a pass and behind the walk
-pub record Below (vars : ℕ) (sizes : List ℕ) (w : Walk) (calls : List (Option Zone)) (e e' : Zone) (S' : Lists) : Type 0 where
-  pub under : Under w calls S'
+pub record Below (vars : ℕ) (sizes : List ℕ) (source : Source) (calls : List (Option Zone)) (e e' : Zone) (S' : Lists) : Type 0 where
+  pub under : Under source calls S'
   pub below : IsBelow e e'
   pub base : Base vars sizes S'
   pub size : e.vars ≡ vars
@@ -131,34 +127,34 @@ size_of : (sizes : List ℕ) (inputs : List Zone) (c n : ℕ) → map (λ (z : Z
 size_of sizes inputs c n same at old e =
     some_same (sym (get_map (λ (z : Zone). z.vars) inputs c old e) ∙ (ap (λ (ns : List ℕ). slice_get ns c) same ∙ at))
 
-held_vars : (w : Walk) (calls : List (Option Zone)) (k c : ℕ) (to : Slot) (callee : ProcId) (codes : List CodeOperand) (z e : Zone) (vars : ℕ) → z.vars ≡ vars → Holds w calls k c (help to callee codes) z e → e.vars ≡ vars
-held_vars w calls k c to callee codes z e vars same (inl (bottom, none, end)) = ap (λ (z : Zone). z.vars) end ∙ same
-held_vars w calls k c to callee codes z e vars same (inr (some, (args, cond, is, met, matched, returned, assigned, allowed))) = assigned_vars z e to.0 (Within cond) assigned ∙ same
+held_vars : (source : Source) (calls : List (Option Zone)) (k c : ℕ) (to : Slot) (callee : ProcId) (codes : List CodeOperand) (z e : Zone) (vars : ℕ) → z.vars ≡ vars → Holds source calls k c (help to callee codes) z e → e.vars ≡ vars
+held_vars source calls k c to callee codes z e vars same (inl (bottom, none, end)) = ap (λ (z : Zone). z.vars) end ∙ same
+held_vars source calls k c to callee codes z e vars same (inr (some, (args, cond, is, met, answer, assigned))) = assigned_vars z e to.0 (Within cond) assigned ∙ same
 
 mutual
-  pub under_stmt : (program : Resolution) (vars : ℕ) (sizes : List ℕ) (given : Given) (w : Walk) (calls : List (Option Zone)) (whole : List ProcId) (set : Setting vars given w calls whole) (m k c : ℕ) (s : Stmt) (z e z' e' : Zone) (S S' : Lists) →
-      IsReady program vars s → IsKnown m s → AreCalled program sizes c (callees s) → AreIn whole c (callees s) → Base vars sizes S → Under w calls S → z.vars ≡ vars → z'.vars ≡ vars → IsBelow z z' →
-      Moves given k c s z S e S' → Holds w calls k c s z' e' → Below vars sizes w calls e e' S'
-  under_stmt program vars sizes given w calls whole set m k c (plain simple) z e z' e' S S' ready known called are base under same same' low (s, stepped, end, is) (s', stepped', allowed, end') =
+  pub under_stmt : (program : Resolution) (vars : ℕ) (sizes : List ℕ) (given : Given) (source : Source) (calls : List (Option Zone)) (whole : List ProcId) (set : Setting vars given source calls whole) (m k c : ℕ) (s : Stmt) (z e z' e' : Zone) (S S' : Lists) →
+      IsReady program vars s → IsKnown m s → AreCalled program sizes c (callees s) → AreIn whole c (callees s) → Base vars sizes S → Under source calls S → z.vars ≡ vars → z'.vars ≡ vars → IsBelow z z' →
+      Moves given k c s z S e S' → Holds source calls k c s z' e' → Below vars sizes source calls e e' S'
+  under_stmt program vars sizes given source calls whole set m k c (plain simple) z e z' e' S S' ready known called are base under same same' low (s, stepped, end, is) (s', stepped', allowed, end') =
       let inside : IsSimpleInside z'.vars simple = subst (λ n. IsSimpleInside n simple) (sym same') ready in
-      let mono = step_mono simple given.assumed w.assumed z z' s s' (same ∙ sym same') inside known.0 stepped stepped' set.assumed low in
+      let mono = step_mono simple given.assumed (assumed_in source) z z' s s' (same ∙ sym same') inside known.0 stepped stepped' set.assumed low in
       record {
-        under = subst (Under w calls) (sym is) (flag_simple w calls S m simple s s' known.1 allowed mono.1 under);
+        under = subst (Under source calls) (sym is) (flag_simple source calls S m simple s s' known.1 allowed mono.1 under);
         below = subst (λ (x : Zone). IsBelow x e') (sym end) (subst (λ (x : Zone). IsBelow s.zone x) (sym end') mono.0);
         base = subst (Base vars sizes) (sym is) (record { over = base.over; inputs = base.inputs });
         size = ap (λ (z : Zone). z.vars) end ∙ (after_vars simple given.assumed z s.zone stepped.zone ∙ same);
-        size' = ap (λ (z : Zone). z.vars) end' ∙ (after_vars simple w.assumed z' s'.zone stepped'.zone ∙ same');
+        size' = ap (λ (z : Zone). z.vars) end' ∙ (after_vars simple (assumed_in source) z' s'.zone stepped'.zone ∙ same');
       }
-  under_stmt program vars sizes given w calls whole set m k c (help to callee codes) z e z' e' S S' ready known called are base under same same' low (inl (bottom, end, is)) h = record {
-    under = subst (Under w calls) (sym is) under;
+  under_stmt program vars sizes given source calls whole set m k c (help to callee codes) z e z' e' S S' ready known called are base under same same' low (inl (bottom, end, is)) h = record {
+    under = subst (Under source calls) (sym is) under;
     below = subst (λ (x : Zone). IsBelow x e') (sym end) (λ f. clash z.bottom bottom f);
     base = subst (Base vars sizes) (sym is) base;
     size = ap (λ (z : Zone). z.vars) end ∙ same;
-    size' = held_vars w calls k c to callee codes z' e' vars same' h;
+    size' = held_vars source calls k c to callee codes z' e' vars same' h;
   }
-  under_stmt program vars sizes given w calls whole set m k c (help to callee codes) z e z' e' S S' ready known called are base under same same' low (inr (some, h)) (inl (bottom, none, g)) = clash z'.bottom bottom (low some).not_bottom
-  under_stmt program vars sizes given w calls whole set m k c (help to callee codes) z e z' e' S S' ready known called are base under same same' low (inr (some, (args, cond, is, takes, at, assigned)))
-      (inr (some', (args', cond', is', met, matched, returned, assigned', allowed))) =
+  under_stmt program vars sizes given source calls whole set m k c (help to callee codes) z e z' e' S S' ready known called are base under same same' low (inr (some, h)) (inl (bottom, none, g)) = clash z'.bottom bottom (low some).not_bottom
+  under_stmt program vars sizes given source calls whole set m k c (help to callee codes) z e z' e' S S' ready known called are base under same same' low (inr (some, (args, cond, is, takes, at, assigned)))
+      (inr (some', (args', cond', is', met, answer, assigned'))) =
       let inside : AreInside z'.vars codes = subst (λ n. AreInside n codes) (sym same') ready.3 in
       let size = called_size program vars sizes c callee codes z args called ready.1 ready.3 same is in
       let one : args.vars ≡ length codes = (pass_normal codes z args (subst (λ n. AreInside n codes) (sym same) ready.3) is).1 in
@@ -167,20 +163,19 @@ mutual
       let z0 : c + 0 ≡ c = omega arith in
       let there : slice_get whole c ≡ Some callee = subst (λ j. slice_get whole j ≡ Some callee) z0 (are 0 callee refl) in
       record {
-        under = take_under vars sizes w calls c args args' S S' under met (two ∙ sym one) (size_of sizes S.inputs c args.vars base.inputs size.0) below takes;
-        below = word_mono z z' e e' to.0 cond cond' (same ∙ sym same') ready.0.0
-            (λ word holds. (returned word).1 (λ row match. returns_of row.result cond word (set.results c callee args' cond row there met at match) holds)) assigned assigned' low;
+        under = take_under vars sizes source calls c args args' S S' under met (two ∙ sym one) (size_of sizes S.inputs c args.vars base.inputs size.0) below takes;
+        below = word_mono z z' e e' to.0 cond cond' (same ∙ sym same') ready.0.0 (set.results c callee args' cond cond' there met at answer) assigned assigned' low;
         base = take_base vars sizes c args S S' base takes;
         size = assigned_vars z e to.0 (Within cond) assigned ∙ same;
         size' = assigned_vars z' e' to.0 (Within cond') assigned' ∙ same';
       }
-  under_stmt program vars sizes given w calls whole set m k c (branch test first second) z e z' e' S S' ready known called are base under same same' low (z1, z2, e1, e2, S1, is, one, two, join) (z1', z2', e1', e2', is', one', two', join') =
+  under_stmt program vars sizes given source calls whole set m k c (branch test first second) z e z' e' S S' ready known called are base under same same' low (z1, z2, e1, e2, S1, is, one, two, join) (z1', z2', e1', e2', is', one', two', join') =
       let mono = branch_mono test z z' z1 z2 z1' z2' (same ∙ sym same') (subst (λ n. IsTestInside n test) (sym same') ready.0) is is' low in
       let xs = block_callees first in
       let ys = block_callees second in
-      let a = under_block program vars sizes given w calls whole set m k c first z1 e1 z1' e1' S S1 ready.1 known.0 (called_first program sizes c xs ys called) (in_one whole c xs ys are) base under (is.holds.greatest.vars ∙ same)
+      let a = under_block program vars sizes given source calls whole set m k c first z1 e1 z1' e1' S S1 ready.1 known.0 (called_first program sizes c xs ys called) (in_one whole c xs ys are) base under (is.holds.greatest.vars ∙ same)
       (is'.holds.greatest.vars ∙ same') mono.0 one one' in
-      let b = under_block program vars sizes given w calls whole set (m + block_sites first) (k + block_loops first) (c + length xs) second z2 e2 z2' e2' S1 S' ready.2 known.1 (called_second program sizes c xs ys called) (in_two whole c xs ys are)
+      let b = under_block program vars sizes given source calls whole set (m + block_sites first) (k + block_loops first) (c + length xs) second z2 e2 z2' e2' S1 S' ready.2 known.1 (called_second program sizes c xs ys called) (in_two whole c xs ys are)
       a.base a.under (is.fails.greatest.vars ∙ same) (is'.fails.greatest.vars ∙ same') mono.1 two two' in
       record {
         under = b.under;
@@ -189,28 +184,28 @@ mutual
         size = join.vars ∙ a.size;
         size' = join'.vars ∙ a.size';
       }
-  under_stmt program vars sizes given w calls whole set m k c (loop index slot bound most site body) z e z' e' S S' ready known called are base under same same' low
+  under_stmt program vars sizes given source calls whole set m k c (loop index slot bound most site body) z e z' e' S S' ready known called are base under same same' low
       (s, kept, normed, turned, end, again, last, left, S1, S2, is, first, norm, turn, inside, more, second, out, leave) (s', top, normed', turned', end', again', is', at', listed, low', norm', turn', inside', more', low'', leave') =
       let S0 : Lists = record S { unproved = slice_set S.unproved (site - 1) s.unproved } in
       let number = known.0 in
       let base0 : Base vars sizes S0 = record { over = base.over; inputs = base.inputs } in
       let mono = head_mono index slot bound most z z' s s' (same ∙ sym same') (subst (λ n. IsVariable n index) (sym same') ready.0) (subst (λ n. IsVariable n slot) (sym same') ready.1) (subst (λ n. IsInside n bound) (sym same') ready.2) is is' low in
-      let size : top.vars ≡ vars = all_at (λ (z : Zone). z.vars ≡ vars) w.row.keeps k top set.over at' in
+      let size : top.vars ≡ vars = all_at (λ (z : Zone). z.vars ≡ vars) (keeps_in source) k top set.over at' in
       let seen' : s'.zone.vars ≡ vars = head_vars index slot bound most z' s' is' ∙ same' in
-      let under0 = flag_under w calls S site s.unproved (omega arith) (λ t. listed (mono.1 t)) under in
+      let under0 = flag_under source calls S site s.unproved (omega arith) (λ t. told_unproved source site s'.unproved listed (mono.1 t)) under in
       let a = keep_base vars sizes given k s.zone kept S0 S1 base0 first in
-      let u = keep_under vars sizes given w calls whole k s.zone kept top S0 S1 set base0 under0 at' (below_trans s.zone s'.zone top (seen' ∙ sym size) mono.0 low') first in
+      let u = keep_under vars sizes given source calls whole k s.zone kept top S0 S1 set base0 under0 at' (below_trans s.zone s'.zone top (seen' ∙ sym size) mono.0 low') first in
       let n' : normed'.vars ≡ vars = norm'.vars ∙ size in
       let n : normed.vars ≡ vars = norm.vars ∙ a.size in
       let i' = subst (λ n. IsVariable n index) (sym n') ready.0 in
       let j' = subst (λ n. IsVariable n slot) (sym n') ready.1 in
       let lower = norm_mono kept top normed normed' (a.size ∙ sym size) norm norm' u.below in
       let turns = turn_mono index slot normed normed' turned turned' (n ∙ sym n') i' j' turn turn' lower in
-      let b = under_block program vars sizes given w calls whole set (m + 1) (k + 1) c body turned end turned' end' S1 S2 ready.3 known.1 called are a.base u.under (turn.greatest.vars ∙ n) (turn'.greatest.vars ∙ n') turns inside inside' in
+      let b = under_block program vars sizes given source calls whole set (m + 1) (k + 1) c body turned end turned' end' S1 S2 ready.3 known.1 called are a.base u.under (turn.greatest.vars ∙ n) (turn'.greatest.vars ∙ n') turns inside inside' in
       let behind = again_mono index end end' again again' (b.size ∙ sym b.size') (subst (λ n. IsVariable n index) (sym b.size') ready.0) more more' b.below in
       let again_size' : again'.vars ≡ vars = assigned_vars end' again' index.0 _ more' ∙ b.size' in
       let d = keep_base vars sizes given k again last S2 S' b.base second in
-      let v = keep_under vars sizes given w calls whole k again last top S2 S' set b.base b.under at' (below_trans again again' top (again_size' ∙ sym size) behind low'') second in
+      let v = keep_under vars sizes given source calls whole k again last top S2 S' set b.base b.under at' (below_trans again again' top (again_size' ∙ sym size) behind low'') second in
       let lower' = norm_mono last top left normed' (d.size ∙ sym size) out norm' v.below in
       record {
         under = v.under;
@@ -220,19 +215,19 @@ mutual
         size' = leave'.vars ∙ n';
       }
 
-  pub under_block : (program : Resolution) (vars : ℕ) (sizes : List ℕ) (given : Given) (w : Walk) (calls : List (Option Zone)) (whole : List ProcId) (set : Setting vars given w calls whole) (m k c : ℕ) (b : Block) (z e z' e' : Zone) (S S' : Lists) →
-      AreReady program vars b → AreKnown m b → AreCalled program sizes c (block_callees b) → AreIn whole c (block_callees b) → Base vars sizes S → Under w calls S → z.vars ≡ vars → z'.vars ≡ vars → IsBelow z z' →
-      MovesAll given k c b z S e S' → HoldsAll w calls k c b z' e' → Below vars sizes w calls e e' S'
-  under_block program vars sizes given w calls whole set m k c [] z e z' e' S S' ready known called are base under same same' low (end, is) end' = record {
-    under = subst (Under w calls) (sym is) under;
+  pub under_block : (program : Resolution) (vars : ℕ) (sizes : List ℕ) (given : Given) (source : Source) (calls : List (Option Zone)) (whole : List ProcId) (set : Setting vars given source calls whole) (m k c : ℕ) (b : Block) (z e z' e' : Zone) (S S' : Lists) →
+      AreReady program vars b → AreKnown m b → AreCalled program sizes c (block_callees b) → AreIn whole c (block_callees b) → Base vars sizes S → Under source calls S → z.vars ≡ vars → z'.vars ≡ vars → IsBelow z z' →
+      MovesAll given k c b z S e S' → HoldsAll source calls k c b z' e' → Below vars sizes source calls e e' S'
+  under_block program vars sizes given source calls whole set m k c [] z e z' e' S S' ready known called are base under same same' low (end, is) end' = record {
+    under = subst (Under source calls) (sym is) under;
     below = subst (λ (x : Zone). IsBelow x e') (sym end) (subst (λ (x : Zone). IsBelow z x) (sym end') low);
     base = subst (Base vars sizes) (sym is) base;
     size = ap (λ (z : Zone). z.vars) end ∙ same;
     size' = ap (λ (z : Zone). z.vars) end' ∙ same';
   }
-  under_block program vars sizes given w calls whole set m k c (s ⨾ rest) z e z' e' S S' ready known called are base under same same' low (x, S1, one, two) (x', one', two') =
+  under_block program vars sizes given source calls whole set m k c (s ⨾ rest) z e z' e' S S' ready known called are base under same same' low (x, S1, one, two) (x', one', two') =
       let xs = callees s in
       let ys = block_callees rest in
-      let a = under_stmt program vars sizes given w calls whole set m k c s z x z' x' S S1 ready.0 known.0 (called_first program sizes c xs ys called) (in_one whole c xs ys are) base under same same' low one one' in
-      under_block program vars sizes given w calls whole set (m + sites s) (k + loops s) (c + length xs) rest x e x' e' S1 S' ready.1 known.1 (called_second program sizes c xs ys called) (in_two whole c xs ys are) a.base a.under a.size a.size' a.below
+      let a = under_stmt program vars sizes given source calls whole set m k c s z x z' x' S S1 ready.0 known.0 (called_first program sizes c xs ys called) (in_one whole c xs ys are) base under same same' low one one' in
+      under_block program vars sizes given source calls whole set (m + sites s) (k + loops s) (c + length xs) rest x e x' e' S1 S' ready.1 known.1 (called_second program sizes c xs ys called) (in_two whole c xs ys are) a.base a.under a.size a.size' a.below
       two two'

@@ -1,6 +1,6 @@
 pub mod Callees
+pub mod Source
 pub mod Holds
-pub mod Settles
 pub mod Room
 pub mod Upper
 pub mod Moves

@@ -24,7 +24,7 @@ use Rattle.vmv_cert.specs.Sizes.{loops, block_loops}
 use Rattle.vmv_check.specs.Walker.{HasParams}
 use Rattle.vmv_pass.specs.declared.place.Place.{Place}
 use Rattle.vmv_pass.specs.Callees.{callees, block_callees}
-use Rattle.vmv_pass.specs.Settles.{Stored}
+use Rattle.vmv_pass.specs.Source.{Stored}
 
 -- what a pass looks at and doesn't change
 pub record Given : Type 0 where

@@ -3,23 +3,22 @@ use Rattle.std.specs.Prelude.{◌≡◌, ℕ, ◌+◌, ◌-◌, ◌^◌, ℤ, po
 use Rattle.std.specs.List.{All, AllZip, Contains}
 use Rattle.vmv_tree.specs.Tree.{Item}
 use Rattle.vmv_cond.specs.declared.cond.Cond.{Cond}
+use Rattle.vmv_cond.specs.Cond.{IsSubset}
 use Rattle.vmv_snapshot.specs.declared.code.ProcId.{ProcId}
 use Rattle.vmv_snapshot.specs.declared.code.Code.{Code}
 use Rattle.vmv_snapshot.specs.View.{code_of}
+use Rattle.vmv_snapshot.specs.Procs.{params_of}
 use Rattle.vmv_snapshot.specs.Resolution.{Resolution, procs_of}
 use Rattle.vmv_snapshot.specs.Tables.{body_sites}
 use Rattle.vmv_zone.specs.declared.zone.Zone.{Zone}
-use Rattle.vmv_zone.specs.Zone.{vars_of, IsBottom, IsBelow, IsNormal, IsNormOf}
+use Rattle.vmv_zone.specs.Zone.{vars_of, IsBottom, IsBelow, IsNormal}
 use Rattle.vmv_zone.specs.Round.{AreSorted, IsThresholdState}
 use Rattle.vmv_assumption.specs.Within.{IsBelow as IsLess}
-use Rattle.vmv_cert.specs.declared.row.Row.{Row}
 use Rattle.vmv_cert.specs.Sizes.{block_loops}
-use Rattle.vmv_cert.specs.Walk.{Walk, ListsOwn, IsMatch}
-use Rattle.vmv_cert.specs.Tables.{IsFormed, IsAbove}
 use Rattle.vmv_check.specs.Walker.{HasParams}
 use Rattle.vmv_pass.specs.Callees.{block_callees}
 use Rattle.vmv_pass.specs.Holds.{HoldsRow}
-use Rattle.vmv_pass.specs.Settles.{Stored}
+use Rattle.vmv_pass.specs.Source.{Stored, Source, assumed_in, input_in, keeps_in, TellsUnproved, Answers}
 
 -- the procedure of this number, and its code
 pub record IsProc (program : Resolution) (n : ℕ) (item : Item) (code : Code) : Type 0 where
@@ -53,27 +52,26 @@ abbrev pub IsBelowCall : Zone → Option Zone → Type 0
 IsBelowCall input None = IsBottom input
 IsBelowCall input (Some args) = IsBelow input args
 
--- what is stored is below a walk of a row with these calls: the states at loops, the inputs, and the unproved sites are listed
-pub record IsUnder (w : Walk) (calls : List (Option Zone)) (stored : Stored) : Type 0 where
-  pub keeps : AllZip IsBelow stored.keeps w.row.keeps
+-- what is stored is below a walk with these calls: the states at loops, the inputs, and the sites that are unproved
+pub record IsUnder (source : Source) (calls : List (Option Zone)) (stored : Stored) : Type 0 where
+  pub keeps : AllZip IsBelow stored.keeps (keeps_in source)
   pub inputs : AllZip IsBelowCall stored.inputs calls
-  pub unproved : (i : ℕ) → slice_get stored.unproved i ≡ Some true → ListsOwn w.row (i + 1)
+  pub unproved : (i : ℕ) → slice_get stored.unproved i ≡ Some true → TellsUnproved source (i + 1)
 
--- each result that is stored for a call is below those of all rows that match the call's arguments
-abbrev pub AreResultsUnder : Walk → List ProcId → List (Option Zone) → List Cond → Type 0
-AreResultsUnder w callees calls results =
-    (c : ℕ) (callee : ProcId) (args : Zone) (result : Cond) (row : Row) → slice_get callees c ≡ Some callee → slice_get calls c ≡ Some (Some args)
-    → slice_get results c ≡ Some result → IsMatch w callee.0 args row → IsAbove row.result result
+-- each result that is stored for a call is below the answer to that call
+abbrev pub AreResultsUnder : Source → List ProcId → List (Option Zone) → List Cond → Type 0
+AreResultsUnder source callees calls results =
+    (c : ℕ) (callee : ProcId) (args : Zone) (result cond : Cond) → slice_get callees c ≡ Some callee → slice_get calls c ≡ Some (Some args)
+    → slice_get results c ≡ Some result → Answers source c callee args cond → IsSubset result cond
 
--- A row of the procedure, with threshold states at its loops and an input above this one, whose walk holds, under conditions
--- that hold no fewer words. Its calls are above the results that are stored.
-pub record IsUpper (program : Resolution) (n : ℕ) (ts : List ℤ) (input : Zone) (stored : Stored) (w : Walk) (item : Item) (code : Code) (e : Zone) (calls : List (Option Zone)) : Type 0 where
-  pub same : w.program ≡ program
-  pub assumed : IsLess stored.assumed w.assumed
-  pub formed : IsFormed w.program w.row n item code
-  pub thresholds : All (IsThresholdState ts) w.row.keeps
-  pub normed : Zone
-  pub norm : IsNormOf w.row.input normed
-  pub above : IsBelow input normed
-  pub holds : HoldsRow w item code e calls
-  pub results : AreResultsUnder w (block_callees (code_of code).block) calls stored.results
+-- A walk of the procedure that holds, over threshold states at its loops and from an input above this one, under conditions
+-- that hold no fewer words. Its calls are answered by no fewer words than are stored.
+pub record IsUpper (program : Resolution) (n : ℕ) (ts : List ℤ) (input : Zone) (stored : Stored) (source : Source) (item : Item) (code : Code) (e : Zone) (calls : List (Option Zone)) : Type 0 where
+  pub proc : IsProc program n item code
+  pub assumed : IsLess stored.assumed (assumed_in source)
+  pub params : vars_of (input_in source) ≡ length (params_of item)
+  pub over : All (λ z. vars_of z ≡ code.vars) (keeps_in source)
+  pub thresholds : All (IsThresholdState ts) (keeps_in source)
+  pub above : IsBelow input (input_in source)
+  pub holds : HoldsRow source item code e calls
+  pub results : AreResultsUnder source (block_callees (code_of code).block) calls stored.results

@@ -5,9 +5,9 @@ ghost use Rattle.vmv_snapshot.specs.Procs.{params_of};
 ghost use Rattle.vmv_snapshot.specs.Resolution.{procs_of};
 ghost use Rattle.vmv_zone.specs.declared.zone.Zone.{Zone};
 ghost use Rattle.vmv_zone.specs.Zone.{vars_of};
-ghost use Rattle.vmv_cert.specs.Walk.{Walk};
 ghost use Rattle.vmv_cert.specs.Tables.{IsAbove};
-ghost use Rattle.vmv_pass.specs.Settles.{SettlesBody};
+ghost use Rattle.vmv_pass.specs.Source.{Source, result_in};
+ghost use Rattle.vmv_pass.specs.Holds.{Settles};
 ghost use Rattle.vmv_pass.specs.Room.{rooms, ranks};
 ghost use Rattle.vmv_pass.specs.Upper.{IsProc, AreScale, Fits, AreBelow, IsUnder, IsUpper};
 ghost use Rattle.vmv_pass.specs.Moves.{stored_of};
@@ -39,12 +39,12 @@ pub fn raise<L: Ledger>(
     requires fits { (item : Item) (code : Code) → IsProc at.now.snapshot.now at.now.proc.0 item code → Fits at.now.snapshot.now at.now.thresholds.now item code (stored_of at.now keeps.old inputs.old unproved.old) }
     ensures keeps_stay { IsFalse result.raised → keeps.new ≡ keeps.old }
     ensures inputs_stay { IsFalse result.raised → inputs.new ≡ inputs.old }
-    ensures settled { IsFalse result.raised → (item : Item) (code : Code) → IsProc at.now.snapshot.now at.now.proc.0 item code → SettlesBody (stored_of at.now keeps.new inputs.new unproved.new) item code at.now.input.now result.range }
+    ensures settled { IsFalse result.raised → (item : Item) (code : Code) → IsProc at.now.snapshot.now at.now.proc.0 item code → Settles (stored_of at.now keeps.new inputs.new unproved.new) item code at.now.input.now result.range }
     ensures fits { (item : Item) (code : Code) → IsProc at.now.snapshot.now at.now.proc.0 item code → Fits at.now.snapshot.now at.now.thresholds.now item code (stored_of at.now keeps.new inputs.new unproved.new) }
     ensures keeps_rise { AreBelow keeps.old keeps.new }
     ensures inputs_rise { AreBelow inputs.old inputs.new }
     ensures falls { IsTrue result.raised → rooms keeps.new + rooms inputs.new < rooms keeps.old + rooms inputs.old }
-    ensures under { (w : Walk) (item : Item) (code : Code) (e : Zone) (calls : List (Option Zone)) → IsUpper at.now.snapshot.now at.now.proc.0 at.now.thresholds.now at.now.input.now (stored_of at.now keeps.old inputs.old unproved.old) w item code e calls → IsUnder w calls (stored_of at.now keeps.old inputs.old unproved.old) → IsUnder w calls (stored_of at.now keeps.new inputs.new unproved.new) × IsAbove w.row.result result.range }
+    ensures under { (source : Source) (item : Item) (code : Code) (e : Zone) (calls : List (Option Zone)) → IsUpper at.now.snapshot.now at.now.proc.0 at.now.thresholds.now at.now.input.now (stored_of at.now keeps.old inputs.old unproved.old) source item code e calls → IsUnder source calls (stored_of at.now keeps.old inputs.old unproved.old) → IsUnder source calls (stored_of at.now keeps.new inputs.new unproved.new) × IsAbove (result_in source) result.range }
     ensures steps_rise { steps.old ≤ steps.new }
     ensures counted { steps.new ≡ steps.old → keeps.new ≡ keeps.old }
     ensures cost { steps.new + ranks at.now.thresholds.now keeps.old ≤ steps.old + ranks at.now.thresholds.now keeps.new }

@@ -25,7 +25,7 @@ returns-clause-provable c = λ ends site are.
     (let table = c.in_ok-table.ensures in
     sites_told c.args.snapshot.now c.args.entry.0 c.params.result.now c.full_box-within.result ends (cond_of c.args.assumed.now) c.in_ok-table.table.rows c.in_ok-sites.sites
     (entry_is c.args.snapshot.now c.args.entry.0 c.params.result.now c.requires.entry c.params.ensures) (c.full_box-within.ensures ∙ ap ranges_of c.as_slice.ensures)
-    (record { accepted = table.accepted; thresholds = table.thresholds ends are; least = table.least ends are }) (λ first rest e. c.in_ok-sites.ensures first rest (c.as_slice-2.ensures ∙ e)) site)
+    (table.least ends are) (λ first rest e. c.in_ok-sites.ensures first rest (c.as_slice-2.ensures ∙ e)) site)
 
 pub returns-clause-sites : goal.returns-clause-sites
 returns-clause-sites c =
@@ -33,4 +33,4 @@ returns-clause-sites c =
     let ends = c.requires.thresholds.0 in
     let are = c.requires.thresholds.1 in
     sites_reached c.args.snapshot.now c.args.entry.0 c.params.result.now c.full_box-within.result ends (cond_of c.args.assumed.now) c.in_ok-table.table.rows c.in_ok-sites.sites c.program.ensures.resolution
-    (record { accepted = table.accepted; thresholds = table.thresholds ends are; least = table.least ends are }) (λ first rest e. c.in_ok-sites.ensures first rest (c.as_slice-2.ensures ∙ e))
+    (table.least ends are) (λ first rest e. c.in_ok-sites.ensures first rest (c.as_slice-2.ensures ∙ e))

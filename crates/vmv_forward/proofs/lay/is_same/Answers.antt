@@ -2,7 +2,7 @@ use Rattle.std.proofs.Common.{subst}
 use Rattle.vmv_zone.specs.declared.zone.Zone.{Zone}
 use Rattle.vmv_zone.specs.Zone.{IsBelow}
 use Rattle.vmv_zone.proofs.Equal.{below_both}
-use Rattle.vmv_forward.proofs.Settled.{below_same}
+use Rattle.vmv_forward.proofs.States.{below_same}
 use Rattle.vmv_forward.proofs.lay.is_same.Goals as goal
 
 pub returns-then-below : goal.returns-then-below

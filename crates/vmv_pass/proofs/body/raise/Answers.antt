@@ -1,8 +1,8 @@
-use Rattle.std.proofs.Common.{◌≡◌, Some, List, false, slice_get, refl, sym, ap, subst, ◌∙◌}
+use Rattle.std.proofs.Common.{◌≡◌, List, false, refl, sym, ap, subst, ◌∙◌}
 use Rattle.vmv_snapshot.specs.declared.code.Code.{Code}
 use Rattle.vmv_snapshot.specs.declared.code.CodeStmt.{CodeStmt}
 use Rattle.vmv_snapshot.specs.View.{block_of}
-use Rattle.vmv_snapshot.specs.Resolution.{Resolution, procs_of}
+use Rattle.vmv_snapshot.specs.Resolution.{procs_of}
 use Rattle.vmv_zone.specs.declared.operand.ZoneOperand.{ZoneOperand}
 use Rattle.vmv_zone.specs.Operand.{IsOperand}
 use Rattle.vmv_zone.specs.Read.{IsRangeOf}
@@ -234,10 +234,10 @@ returns-clause-falls g c raised =
     run_falls program item code (given_of c.args.at.now) c.args.at.now.input.now c.enter-start.result c.pass_block-end.result c.range.result S S' run raised
 
 pub returns-clause-under : goal.returns-clause-under
-returns-clause-under g c w item code e calls upper under =
+returns-clause-under g c source item code e calls upper under =
     let program = c.args.at.now.snapshot.now in
     let n = c.args.at.now.proc.0 in
-    let proc : IsProc program n item code = record { place = subst (λ (p : Resolution). slice_get (procs_of p) n ≡ Some item) upper.same upper.formed.place; code_is = subst (λ (p : Resolution). slice_get p.codes n ≡ Some code) upper.same upper.formed.code_is } in
+    let proc = upper.proc in
     let S = (lists c.args.keeps.now c.args.inputs.now c.args.unproved.now false c.args.steps.now) in
     let S' = (lists c.pass_block-end.new.keeps c.pass_block-end.new.inputs c.pass_block-end.new.unproved c.pass_block-end.new.mark.raised c.pass_block-end.new.steps) in
     let same : c.code-code.result.now ≡ code = some_same (sym c.code-code.ensures.kept ∙ proc.code_is) in
@@ -249,7 +249,7 @@ returns-clause-under g c w item code e calls upper under =
       fits = c.requires.fits item code proc;
       begun = refl;
     } in
-    run_under program n item code (given_of c.args.at.now) c.args.at.now.input.now c.enter-start.result c.pass_block-end.result c.range.result S S' w e calls run (c.requires.input item code proc) upper under
+    run_under program n item code (given_of c.args.at.now) c.args.at.now.input.now c.enter-start.result c.pass_block-end.result c.range.result S S' source e calls run (c.requires.input item code proc) upper under
 
 pub returns-clause-cost : goal.returns-clause-cost
 returns-clause-cost g c =
