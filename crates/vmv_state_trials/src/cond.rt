@@ -1,60 +1,93 @@
+use crate::words::{put_answer, put_words};
+use vmv_cases::{Sheet, number, word};
 use vmv_cond::{Cond, Piece};
+use vmv_state_texts::read_cond;
 
-const EMPTY: (i64, i64, bool) = (i64::MAX, i64::MIN, true);
-
-fn parts(cond: Cond) -> (i64, i64, bool) {
-    (cond.lo(), cond.hi(), cond.zero_out())
+/// A condition, or nothing where it can't be read.
+fn cond_of(words: &[u8], sheet: &mut Sheet) -> Option<Cond> {
+    let cond = read_cond(words);
+    if cond.is_none() {
+        sheet.refuse();
+    }
+    cond
 }
 
-#[test]
-fn normal_forms(rt: HostRuntime) {
-    for (lo, hi, zero_out, want) in [
-        (i64::MIN, i64::MAX, false, (i64::MIN, i64::MAX, false)),
-        (0, 0, false, (0, 0, false)),
-        (0, 5, true, (1, 5, true)),
-        (-5, 0, true, (-5, -1, true)),
-        (-1, 1, true, (-1, 1, true)),
-        (2, 3, false, (2, 3, true)),
-        (-3, -2, false, (-3, -2, true)),
-        (0, 0, true, EMPTY),
-        (1, 0, false, EMPTY),
-    ] {
-        let cond = Cond::of(lo, hi, zero_out);
-        assert!(rt; parts(cond) == want, "{lo}..{hi}");
-        assert!(rt; cond.is_empty() == (want == EMPTY), "{lo}..{hi}");
+/// A piece of the words: `below W`, `above W` or `zero`.
+pub fn read_piece(words: &[u8]) -> Option<Piece> {
+    let first = word(words, 0);
+    if first == b"zero".as_slice() {
+        return Some(Piece::Zero);
+    }
+    let end = number(word(words, 1))?;
+    if first == b"below".as_slice() {
+        Some(Piece::Below(end))
+    } else if first == b"above".as_slice() {
+        Some(Piece::Above(end))
+    } else {
+        None
     }
 }
 
-#[test]
-fn sets_of_words(rt: HostRuntime) {
-    let cond = Cond::of(-4, 6, false);
-    assert!(rt; cond.holds(0) && !cond.holds(7) && !cond.meet(Cond::of(-1, 9, true)).holds(0));
-    assert!(rt; parts(cond.meet(Cond::of(0, 9, true))) == (1, 6, true));
-    for (piece, outside, inside) in [
-        (Piece::Below(2), (2, 6, true), (-4, 1, false)),
-        (Piece::Above(-1), (-4, -1, true), (0, 6, false)),
-        (Piece::Zero, (-4, 6, true), (0, 0, false)),
-        (Piece::Below(i64::MIN), (-4, 6, false), EMPTY),
-        (Piece::Above(i64::MAX), (-4, 6, false), EMPTY),
-    ] {
-        assert!(rt; parts(cond.cut(piece)) == outside);
-        assert!(rt; parts(cond.within(piece)) == inside);
-    }
-    assert!(rt; parts(Cond::of(0, 6, false).cut(Piece::Zero)) == (1, 6, true));
-    assert!(rt; Cond::of(0, 6, true) == Cond::of(1, 6, false));
+/// `? words COND`: what a condition holds.
+pub fn words(rest: &[u8], sheet: &mut Sheet) {
+    let Some(cond) = cond_of(rest, sheet) else {
+        return;
+    };
+    put_words(cond, sheet);
+    sheet.line(b"");
 }
 
-#[test]
-fn words_nearest_to_zero(rt: HostRuntime) {
-    for (lo, hi, zero_out, want) in [
-        (-3, 2, false, Some(0)),
-        (-3, 2, true, Some(1)),
-        (-3, 0, true, Some(-1)),
-        (-5, -2, false, Some(-2)),
-        (4, i64::MAX, false, Some(4)),
-        (i64::MIN, i64::MIN, false, Some(i64::MIN)),
-        (3, 2, false, None),
-    ] {
-        assert!(rt; Cond::of(lo, hi, zero_out).nearest() == want, "{lo}..{hi}");
+/// `? nearest COND`: the word of a condition that is nearest to 0.
+pub fn nearest(rest: &[u8], sheet: &mut Sheet) {
+    let Some(cond) = cond_of(rest, sheet) else {
+        return;
+    };
+    match cond.nearest() {
+        Some(word) => sheet.show(&word),
+        None => sheet.put(b"none"),
     }
+    sheet.line(b"");
+}
+
+/// `? holds W`: whether the condition of the last text holds a word.
+pub fn holds(text: &[u8], rest: &[u8], sheet: &mut Sheet) {
+    let Some(cond) = cond_of(text, sheet) else {
+        return;
+    };
+    match number(rest) {
+        Some(word) => put_answer(cond.holds(word), sheet),
+        None => sheet.refuse(),
+    }
+}
+
+/// `? meet COND`: the words that the condition of the last text and another one hold.
+pub fn meet(text: &[u8], rest: &[u8], sheet: &mut Sheet) {
+    let (Some(cond), Some(other)) = (read_cond(text), read_cond(rest)) else {
+        sheet.refuse();
+        return;
+    };
+    put_words(cond.meet(other), sheet);
+    sheet.line(b"");
+}
+
+/// `? same COND`: whether the condition of the last text is equal to another one.
+pub fn same(text: &[u8], rest: &[u8], sheet: &mut Sheet) {
+    let (Some(cond), Some(other)) = (read_cond(text), read_cond(rest)) else {
+        sheet.refuse();
+        return;
+    };
+    put_answer(cond == other, sheet);
+}
+
+/// `? piece PIECE`: the words of the condition of the last text outside and inside a piece.
+pub fn piece(text: &[u8], rest: &[u8], sheet: &mut Sheet) {
+    let (Some(cond), Some(piece)) = (read_cond(text), read_piece(rest)) else {
+        sheet.refuse();
+        return;
+    };
+    sheet.put(b"outside ");
+    put_words(cond.cut(piece), sheet);
+    sheet.put(b"\ninside ");
+    put_words(cond.within(piece), sheet);
+    sheet.line(b"");
 }

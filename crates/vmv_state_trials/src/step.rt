@@ -1,339 +1,280 @@
-ghost use Rattle.std.specs.Prelude.{◌≡◌};
+ghost use Rattle.std.specs.Prelude.{◌↔◌, IsTrue};
+ghost use Rattle.vmv_zone.specs.Zone.{vars_of};
+ghost use Rattle.vmv_step.specs.Zones.{IsInside};
 
+use crate::assumption::{change, program_of, whole_of};
+use crate::words::{first_line, put_words_of, variable};
 use std::alloc::Global;
-use std::test::Fail;
 use vmv_assumption::Assumption;
-use vmv_cond::Cond;
-use vmv_snapshot::{
-    CodeArgs, CodeBlock, CodeOperand, CodeRepeat, CodeTest, ProcId, Simple, Slot, Snapshot,
-};
-use vmv_step::{Stepped, again, branch, enter, head, leave, pass, step, turn};
-use vmv_tree::{Block, Body, Item, Items, Name, Names, Op, Operand, Param, Params, Program, Rel};
-use vmv_zone::{Zone, ZoneOperand, ZoneValue};
+use vmv_cases::{Case, Sheet, number, tail, word};
+use vmv_snapshot::{CodeArgs, CodeOperand, CodeTest, ProcId, Simple, Slot, Snapshot};
+use vmv_state_texts::read_state;
+use vmv_step::{Stepped, branch, enter, pass, step};
+use vmv_tree::{Name, Op, Rel};
+use vmv_zone::Zone;
 
-const X: Slot = Slot(1);
-
-const Y: Slot = Slot(2);
-
-const Z: Slot = Slot(3);
-
-/// A range, and whether 0 is left out of it.
-type Words = (i64, i64, bool);
-
-/// What a step left unproved, and the words of x behind it.
-type Outcome = (bool, Words);
-
-fn given(zone: Zone, to: u8, words: Words) -> Option<Zone> {
-    if zone.vars() != 3 || to == 0 || to > 3 {
-        return None;
+/// An operand of a statement: a variable, or a word in digits.
+fn code_operand(word: &[u8]) -> Option<CodeOperand> {
+    match variable(word) {
+        Some(number) => Some(CodeOperand::Var(Slot(number))),
+        None => Some(CodeOperand::Lit(number(word)?)),
     }
-    let (lo, hi, zero_out) = words;
-    Some(zone.assign(to, ZoneValue::Within(Cond::of(lo, hi, zero_out))))
 }
 
-/// The state over x, y and z with any x.
-fn state(y: Words, z: Words) -> Option<Zone> {
-    given(given(Zone::top(3), 2, y)?, 3, z)
-}
-
-fn words(zone: &Zone, of: Slot) -> Option<Words> {
-    if of.0 == 0 || of.0 > zone.vars() {
-        return None;
-    }
-    let range = zone.range(ZoneOperand::Var(of.0));
-    Some((range.lo(), range.hi(), range.zero_out()))
-}
-
-fn name() -> Result<Name, Fail> {
-    Ok(Name::read(b"f").ok_or("a name")?)
-}
-
-/// A program with the outside function f.
-fn asking(alloc: Global) -> Result<Snapshot, Fail> {
-    let f = Item::Outside {
-        name: name()?,
-        arity: 0,
-    };
-    let program = Program {
-        items: Items::from_vec(vec![in alloc; f]?),
-    };
-    Ok(Snapshot::new(alloc, program).ok().ok_or("valid")?)
-}
-
-/// That f answers these words.
-fn answering(alloc: Global, words: Words) -> Result<Assumption, Fail> {
-    let mut assumed = Assumption::whole(alloc, &asking(alloc)?)?;
-    let (lo, hi, zero_out) = words;
-    assumed.set(&name()?, Cond::of(lo, hi, zero_out));
-    Ok(assumed)
-}
-
-fn outcome(stepped: Stepped) -> Option<Outcome> {
-    Some((stepped.unproved, words(&stepped.zone, X)?))
-}
-
-/// The step of `x = y op z`.
-fn computed(assumed: &Assumption, op: Op, y: Words, z: Words) -> Option<Outcome> {
-    let zone = state(y, z)?;
-    if zone.vars() != 3 {
-        return None;
-    }
-    let stmt = Simple::Arith {
-        to: X,
-        op,
-        left: CodeOperand::Var(Y),
-        right: CodeOperand::Var(Z),
-        site: 1,
-    };
-    outcome(step(&stmt, assumed, zone))
-}
-
-#[test]
-fn arithmetic(rt: HostRuntime) -> Result<(), Fail> {
-    let assumed = answering(rt.alloc(), (0, 9, false))?;
-    let y = (-7, 7, false);
-    let all = (i64::MIN, i64::MAX, false);
-    let table = [
-        (Op::Div, y, (-2, 3, false), (true, (-7, 7, false))),
-        (Op::Rem, y, (-2, 3, false), (true, (-2, 2, false))),
-        (Op::Div, y, (-2, 3, true), (false, (-7, 7, false))),
-        (Op::Rem, y, (-2, 3, true), (false, (-2, 2, false))),
-        (
-            Op::Div,
-            all,
-            (-1, -1, true),
-            (true, (-i64::MAX, i64::MAX, false)),
-        ),
-        (Op::Add, y, (1, 2, true), (false, (-6, 9, false))),
-        (
-            Op::Add,
-            all,
-            (1, 2, true),
-            (true, (i64::MIN + 1, i64::MAX, false)),
-        ),
-        (Op::Sub, y, (10, 20, true), (false, (-27, -3, true))),
-        (Op::Mul, y, (-2, 3, false), (false, (-21, 21, false))),
-        (Op::Mul, all, (2, 2, true), (true, all)),
-    ];
-    for (op, left, right, wanted) in table {
-        assert_eq!(rt; computed(&assumed, op, left, right), Some(wanted));
-    }
-    Ok(())
-}
-
-/// The step of `assert y rel c`, and the words of y behind it.
-fn asserted(assumed: &Assumption, y: Words, rel: Rel, c: i64) -> Option<Outcome> {
-    let zone = state(y, (0, 0, false))?;
-    if zone.vars() != 3 {
-        return None;
-    }
-    let test = CodeTest {
-        left: CodeOperand::Var(Y),
-        rel,
-        right: CodeOperand::Lit(c),
-    };
-    let stepped = step(&Simple::Assert { test, site: 1 }, assumed, zone);
-    Some((stepped.unproved, words(&stepped.zone, Y)?))
-}
-
-#[test]
-fn asserts(rt: HostRuntime) -> Result<(), Fail> {
-    let assumed = answering(rt.alloc(), (0, 9, false))?;
-    let y = (0, 5, false);
-    let table = [
-        (Rel::AtLeast, 0, (false, (0, 5, false))),
-        (Rel::AtLeast, 1, (true, (1, 5, true))),
-        (Rel::Unequal, 0, (true, (1, 5, true))),
-        (Rel::Unequal, 6, (false, (0, 5, false))),
-        (Rel::Less, 5, (true, (0, 4, false))),
-        (Rel::Equal, 3, (true, (3, 3, true))),
-    ];
-    for (rel, c, wanted) in table {
-        assert_eq!(rt; asserted(&assumed, y, rel, c), Some(wanted));
-    }
-    Ok(())
-}
-
-/// The steps of `x = f()` and of `x = y`, for a y from 1 to 5.
-fn assigned(assumed: &Assumption, stmt: &Simple) -> Option<Outcome> {
-    let zone = state((1, 5, true), (0, 0, false))?;
-    if zone.vars() != 3 {
-        return None;
-    }
-    match stmt {
-        Simple::Set {
-            to: Slot(1),
-            from: CodeOperand::Var(Slot(2)),
-        } => outcome(step(stmt, assumed, zone)),
-        Simple::Ask { to: Slot(1), .. } => outcome(step(stmt, assumed, zone)),
+fn code_op(word: &[u8]) -> Option<Op> {
+    match word {
+        b"+" => Some(Op::Add),
+        b"-" => Some(Op::Sub),
+        b"*" => Some(Op::Mul),
+        b"/" => Some(Op::Div),
+        b"%" => Some(Op::Rem),
         _ => None,
     }
 }
 
-#[test]
-fn assignments(rt: HostRuntime) -> Result<(), Fail> {
-    let alloc = rt.alloc();
-    let ask = Simple::Ask {
-        to: X,
-        callee: name()?,
+fn code_rel(word: &[u8]) -> Option<Rel> {
+    match word {
+        b"==" => Some(Rel::Equal),
+        b"!=" => Some(Rel::Unequal),
+        b"<" => Some(Rel::Less),
+        b"<=" => Some(Rel::AtMost),
+        b">" => Some(Rel::Greater),
+        b">=" => Some(Rel::AtLeast),
+        _ => None,
+    }
+}
+
+/// A test that words write.
+fn code_test(words: &[u8]) -> Option<CodeTest> {
+    Some(CodeTest {
+        left: code_operand(word(words, 0))?,
+        rel: code_rel(word(words, 1))?,
+        right: code_operand(word(words, 2))?,
+    })
+}
+
+/// Whether an operand is a word or one of a state's variables.
+fn inside(zone: &Zone, operand: CodeOperand) -> bool
+    ensures { IsTrue result ↔ IsInside (vars_of zone.now) operand }
+{
+    match operand {
+        CodeOperand::Lit(_) => true,
+        CodeOperand::Var(slot) => 1 <= slot.0 && slot.0 <= zone.vars(),
+    }
+}
+
+/// The step of `to = left op right`.
+fn computed(
+    zone: Zone,
+    assumed: &Assumption,
+    to: u8,
+    left: CodeOperand,
+    op: Op,
+    right: CodeOperand,
+) -> Option<Stepped> {
+    if to == 0 || to > zone.vars() || zone.vars() > 16 {
+        return None;
+    }
+    if !inside(&zone, left) {
+        return None;
+    }
+    if !inside(&zone, right) {
+        return None;
+    }
+    let stmt = Simple::Arith {
+        to: Slot(to),
+        op,
+        left,
+        right,
+        site: 1,
+    };
+    Some(step(&stmt, assumed, zone))
+}
+
+/// The step of `to = from`.
+fn copied(zone: Zone, assumed: &Assumption, to: u8, from: CodeOperand) -> Option<Stepped> {
+    if to == 0 || to > zone.vars() || zone.vars() > 16 {
+        return None;
+    }
+    if !inside(&zone, from) {
+        return None;
+    }
+    let stmt = Simple::Set { to: Slot(to), from };
+    Some(step(&stmt, assumed, zone))
+}
+
+/// The step of `to = callee()`.
+fn asked(alloc: Global, zone: Zone, assumed: &Assumption, to: u8, callee: Name) -> Option<Stepped> {
+    if to == 0 || to > zone.vars() || zone.vars() > 16 {
+        return None;
+    }
+    let stmt = Simple::Ask {
+        to: Slot(to),
+        callee,
         args: CodeArgs::new(alloc),
     };
-    for words in [(0, 9, false), (-9, 9, true), (i64::MIN, i64::MAX, false)] {
-        assert_eq!(rt;
-            assigned(&answering(alloc, words)?, &ask),
-            Some((false, words))
-        );
-    }
-    let copy = Simple::Set {
-        to: X,
-        from: CodeOperand::Var(Y),
-    };
-    let assumed = answering(alloc, (0, 9, false))?;
-    assert_eq!(rt; assigned(&assumed, &copy), Some((false, (1, 5, true))));
-    Ok(())
+    Some(step(&stmt, assumed, zone))
 }
 
-#[test]
-fn branches(rt: HostRuntime) {
-    let test = CodeTest {
-        left: CodeOperand::Lit(3),
-        rel: Rel::AtMost,
-        right: CodeOperand::Var(Slot(1)),
-    };
-    let (first, second) = branch(&test, Zone::top(1));
-    assert_eq!(rt; words(&first, X), Some((3, i64::MAX, true)));
-    assert_eq!(rt; words(&second, X), Some((i64::MIN, 2, false)));
-}
-
-/// `repeat x to z cap 5 { }`, with y for its bound.
-fn empty_loop(alloc: Global) -> CodeRepeat
-    ensures index { result.index ≡ X }
-    ensures slot { result.slot ≡ Y }
-    ensures bound { result.bound ≡ CodeOperand.Var Z }
-{
-    CodeRepeat {
-        index: X,
-        slot: Y,
-        bound: CodeOperand::Var(Z),
-        cap: 5,
-        site: 1,
-        body: CodeBlock::new(alloc),
-    }
-}
-
-/// The head of the loop, and the words of the bound's slot.
-fn headed(alloc: Global, bound: Words) -> Option<(Outcome, Words)> {
-    let zone = state((0, 0, false), bound)?;
-    if zone.vars() != 3 {
+/// The step of an assert.
+fn asserted(zone: Zone, assumed: &Assumption, test: CodeTest) -> Option<Stepped> {
+    if zone.vars() > 16 || !inside(&zone, test.left) {
         return None;
     }
-    let repeat = empty_loop(alloc);
-    let stepped = head(&repeat, zone);
-    Some((outcome(stepped)?, words(&stepped.zone, Y)?))
-}
-
-#[test]
-fn heads(rt: HostRuntime) {
-    let alloc = rt.alloc();
-    let index = (0, 0, false);
-    let table = [
-        ((0, 5, false), false, (0, 5, false)),
-        ((0, 6, false), true, (0, 5, false)),
-        ((-9, 2, true), false, (-9, 2, true)),
-    ];
-    for (bound, unproved, slot) in table {
-        assert_eq!(rt; headed(alloc, bound), Some(((unproved, index), slot)));
-    }
-}
-
-/// The index in a turn, behind it, and behind the loop, and the bound's slot there, from an index from 0 to 9.
-fn turned(alloc: Global, slot: Words) -> Option<(Words, Words, Words, Words)> {
-    let zone = given(state(slot, (0, 0, false))?, 1, (0, 9, false))?;
-    if zone.vars() != 3 {
+    if !inside(&zone, test.right) {
         return None;
     }
-    let repeat = empty_loop(alloc);
-    let inside = turn(&repeat, zone);
-    if inside.vars() != 3 {
+    Some(step(&Simple::Assert { test, site: 1 }, assumed, zone))
+}
+
+/// The step that words write: `assert TEST`, or a variable that is given an operand, a name's answer, or what an operation gives.
+fn stepped(alloc: Global, zone: Zone, assumed: &Assumption, words: &[u8]) -> Option<Stepped> {
+    if word(words, 0) == b"assert".as_slice() {
+        return asserted(zone, assumed, code_test(tail(words, 1))?);
+    }
+    let to = variable(word(words, 0))?;
+    let from = word(words, 2);
+    if word(words, 1) == b"asks".as_slice() {
+        return asked(alloc, zone, assumed, to, Name::read(from)?);
+    }
+    let left = code_operand(from)?;
+    if tail(words, 3).is_empty() {
+        return copied(zone, assumed, to, left);
+    }
+    let op = code_op(word(words, 3))?;
+    computed(zone, assumed, to, left, op, code_operand(word(words, 4))?)
+}
+
+/// Writes whether a step's site is proved to pass, and the words of a variable behind it.
+fn put_step(stepped: &Stepped, of: u8, sheet: &mut Sheet) {
+    put_proved(stepped.unproved, sheet);
+    put_words_of(&stepped.zone, of, sheet);
+    sheet.line(b"");
+}
+
+/// Writes whether a site is proved to pass.
+pub fn put_proved(unproved: bool, sheet: &mut Sheet) {
+    if unproved {
+        sheet.put(b"unproved");
+    } else {
+        sheet.put(b"proved");
+    }
+}
+
+/// Assumes what the lines of the text `assumed` of a case set.
+fn assumed_of(alloc: Global, case: &Case, sheet: &mut Sheet) -> Option<Assumption> {
+    let mut assumed = whole_of(alloc, case, sheet)?;
+    for line in case.text(b"assumed").split(|byte| *byte == b'\n') {
+        if !line.is_empty() && change(&mut assumed, line).is_none() {
+            sheet.refuse();
+        }
+    }
+    Some(assumed)
+}
+
+/// `? step VAR STATEMENT`: whether the site of a statement is proved to pass from the state of the text `state`, and the words of a
+/// variable behind it.
+pub fn step_of(alloc: Global, case: &Case, rest: &[u8], sheet: &mut Sheet) {
+    let Some(assumed) = assumed_of(alloc, case, sheet) else {
+        return;
+    };
+    let state = first_line(case.text(b"state"));
+    let (Some(zone), Some(of)) = (read_state(state), variable(word(rest, 0))) else {
+        sheet.refuse();
+        return;
+    };
+    match stepped(alloc, zone, &assumed, tail(rest, 1)) {
+        Some(stepped) => put_step(&stepped, of, sheet),
+        None => sheet.refuse(),
+    }
+}
+
+/// The states of both parts of an `if`.
+fn branched(zone: Zone, test: CodeTest) -> Option<(Zone, Zone)> {
+    if !inside(&zone, test.left) {
         return None;
     }
-    let left = leave(&repeat, zone);
-    let next = again(&repeat, inside);
-    Some((
-        words(&inside, X)?,
-        words(&next, X)?,
-        words(&left, X)?,
-        words(&left, Y)?,
-    ))
-}
-
-#[test]
-fn turns(rt: HostRuntime) {
-    let alloc = rt.alloc();
-    let any = (i64::MIN, i64::MAX, false);
-    let none = (i64::MAX, i64::MIN, true);
-    assert_eq!(rt;
-        turned(alloc, (3, 5, true)),
-        Some(((0, 4, false), (1, 5, true), any, any))
-    );
-    assert_eq!(rt;
-        turned(alloc, (20, 30, true)),
-        Some(((0, 9, false), (1, 10, true), none, none))
-    );
-    assert_eq!(rt; turned(alloc, (-2, 0, false)), Some((none, none, any, any)));
-}
-
-/// A program with `entry f(n: 0..50) { var g; return g; }`.
-fn entering(alloc: Global) -> Result<Snapshot, Fail> {
-    let g = Name::read(b"g").ok_or("a name")?;
-    let n = Name::read(b"n").ok_or("a name")?;
-    let body = Body {
-        vars: Names::from_vec(vec![in alloc; g]?),
-        block: Block::new(alloc),
-        result: Operand::Var(g),
-    };
-    let params = Params::from_vec(vec![in alloc;
-        Param {
-            name: n,
-            lo: 0,
-            hi: 50
-        },
-    ]?);
-    let f = Item::Entry {
-        name: name()?,
-        params,
-        body,
-    };
-    let program = Program {
-        items: Items::from_vec(vec![in alloc; f]?),
-    };
-    Ok(Snapshot::new(alloc, program).ok().ok_or("valid")?)
-}
-
-/// The words of the first two variables where the first procedure starts, with any words that aren't 0.
-fn entered(snapshot: &Snapshot) -> Option<(Words, Words)> {
-    if snapshot.proc_count() == 0 || snapshot.params(ProcId(0)).len() != 1 {
+    if !inside(&zone, test.right) {
         return None;
     }
-    let input = Zone::top(1).with_mark(1);
-    let zone = enter(snapshot, ProcId(0), &input);
-    Some((words(&zone, X)?, words(&zone, Y)?))
+    Some(branch(&test, zone))
 }
 
-#[test]
-fn enters(rt: HostRuntime) -> Result<(), Fail> {
-    let snapshot = entering(rt.alloc())?;
-    let wanted = ((i64::MIN, i64::MAX, true), (0, 0, false));
-    assert_eq!(rt; entered(&snapshot), Some(wanted));
-    Ok(())
+/// `? branch TEST`: the words of v1 in both parts of an `if`, from the state of the last text.
+pub fn branches(text: &[u8], rest: &[u8], sheet: &mut Sheet) {
+    let (Some(zone), Some(test)) = (read_state(text), code_test(rest)) else {
+        sheet.refuse();
+        return;
+    };
+    let Some((first, second)) = branched(zone, test) else {
+        sheet.refuse();
+        return;
+    };
+    sheet.put(b"first");
+    put_words_of(&first, 1, sheet);
+    sheet.put(b"\nsecond");
+    put_words_of(&second, 1, sheet);
+    sheet.line(b"");
 }
 
-#[test]
-fn passes(rt: HostRuntime) {
-    let zone = Zone::top(1).with_mark(1);
-    let args = [CodeOperand::Lit(7), CodeOperand::Var(Slot(1))];
-    let passed = pass(&args, &zone);
-    assert_eq!(rt; passed.vars(), 2);
-    assert_eq!(rt; words(&passed, X), Some((7, 7, true)));
-    assert_eq!(rt; words(&passed, Y), Some((i64::MIN, i64::MAX, true)));
+/// Writes the words of each variable.
+fn put_all(zone: &Zone, sheet: &mut Sheet) {
+    sheet.put(b"vars ");
+    sheet.show(&zone.vars());
+    for of in 1..=zone.vars() {
+        put_words_of(zone, of, sheet);
+    }
+    sheet.line(b"");
+}
+
+/// The state in which the first procedure of a program starts.
+fn started(snapshot: &Snapshot, input: &Zone) -> Option<Zone> {
+    if snapshot.proc_count() == 0 {
+        return None;
+    }
+    if snapshot.params(ProcId(0)).len() != input.vars() as usize {
+        return None;
+    }
+    Some(enter(snapshot, ProcId(0), input))
+}
+
+/// `? enter`: the words of each variable where the first procedure of the text `program` starts with the state of the last text.
+pub fn entered(alloc: Global, case: &Case, sheet: &mut Sheet) {
+    let Some(snapshot) = program_of(alloc, case, sheet) else {
+        return;
+    };
+    let Some(input) = read_state(first_line(case.text(b""))) else {
+        sheet.refuse();
+        return;
+    };
+    match started(&snapshot, &input) {
+        Some(zone) => put_all(&zone, sheet),
+        None => sheet.refuse(),
+    }
+}
+
+/// The state of two arguments.
+fn two_args(zone: &Zone, first: CodeOperand, second: CodeOperand) -> Option<Zone> {
+    if !inside(zone, first) {
+        return None;
+    }
+    if !inside(zone, second) {
+        return None;
+    }
+    Some(pass(&[first, second], zone))
+}
+
+/// The state of the two arguments that words write, in the state of a text.
+fn passed_in(text: &[u8], words: &[u8]) -> Option<Zone> {
+    let zone = read_state(text)?;
+    let first = code_operand(word(words, 0))?;
+    two_args(&zone, first, code_operand(word(words, 1))?)
+}
+
+/// `? pass OPERAND OPERAND`: the words of each parameter of a procedure that is called with two arguments in the state of the last text.
+pub fn passed(text: &[u8], rest: &[u8], sheet: &mut Sheet) {
+    match passed_in(text, rest) {
+        Some(zone) => put_all(&zone, sheet),
+        None => sheet.refuse(),
+    }
 }
