@@ -11,7 +11,7 @@ use Rattle.vmv_desk_rules.specs.declared.outcome.Outcome.TheVariants.{Done, NotD
 use Rattle.vmv_desk_rules.specs.Causes.{Meaning, outcome}
 use Rattle.vmv_desk_rules.specs.Step.{Step, Changes, Acts, IsRepeated}
 
-one_reply : (kept : Change) (act : Act) (r s : Reply) → IsRepeated kept act r → IsRepeated kept act s → r ≡ s
+pub one_reply : (kept : Change) (act : Act) (r s : Reply) → IsRepeated kept act r → IsRepeated kept act s → r ≡ s
 one_reply kept act r s (inl a) (inl b) = a.1 ∙ sym b.1
 one_reply kept act r s (inl a) (inr b) = absurd (b.0 a.0)
 one_reply kept act r s (inr a) (inl b) = absurd (a.0 b.0)

@@ -5,3 +5,4 @@ pub mod OthersLemmas
 pub mod VersionsLemmas
 pub mod ShownLemmas
 pub mod FailureLemmas
+pub mod OrdersLemmas

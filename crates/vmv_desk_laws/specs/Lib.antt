@@ -2,3 +2,4 @@ pub mod Seen
 pub mod Others
 pub mod Versions
 pub mod Shown
+pub mod Orders

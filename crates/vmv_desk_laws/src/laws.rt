@@ -9,6 +9,7 @@ ghost use Rattle.vmv_desk_rules.specs.Causes.{Meaning};
 ghost use Rattle.vmv_desk_rules.specs.Step.{Step};
 ghost use Rattle.vmv_desk_rules.specs.Runs.{Turn, Runs};
 ghost use Rattle.vmv_desk_laws.specs.Seen.{seen_by, caller_of};
+ghost use Rattle.vmv_desk_laws.specs.Orders.{SeesSame};
 ghost use Rattle.vmv_desk_laws.specs.Others.{MayChange};
 ghost use Rattle.vmv_desk_laws.specs.Versions.{Extends};
 ghost use Rattle.vmv_desk_laws.specs.Shown.{Shows};
@@ -22,6 +23,15 @@ pub fn callers_are_kept_apart()
         → seen_by (caller_of command) tables ≡ seen_by (caller_of command) others
         → Step J tables command new reply → Step J others command behind again
         → (reply ≡ again) × (seen_by (caller_of command) new ≡ seen_by (caller_of command) behind) }
+{}
+
+/// A law, with nothing to do: the order of projects isn't seen. Where two tables show a caller the same projects, in
+/// whatever order, and the same replies, he has the same reply in both, and is shown the same so behind it.
+pub fn order_of_projects_is_not_seen()
+    ensures { (J : Meaning) (tables new others behind : Tables) (command : Command) (reply again : Reply) → AreFormed tables → AreFormed others
+        → SeesSame (caller_of command) tables others
+        → Step J tables command new reply → Step J others command behind again
+        → (reply ≡ again) × SeesSame (caller_of command) new behind }
 {}
 
 /// A law, with nothing to do: a command changes no project but the one that its act is about, and no reply that is
