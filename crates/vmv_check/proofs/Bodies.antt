@@ -11,6 +11,7 @@ use Rattle.vmv_snapshot.specs.Resolves.{IsCode}
 use Rattle.vmv_snapshot.specs.Resolution.{Resolution, tree_of, procs_of, IsResolution}
 use Rattle.vmv_zone.specs.declared.zone.Zone.{Zone}
 use Rattle.vmv_zone.specs.declared.operand.ZoneOperand.{ZoneOperand}
+use Rattle.vmv_zone.specs.Zone.{IsNormal}
 use Rattle.vmv_zone.specs.Operand.{IsOperand}
 use Rattle.vmv_zone.specs.Read.{IsRangeOf}
 use Rattle.vmv_cond.specs.declared.cond.Cond.{Cond}
@@ -21,7 +22,8 @@ use Rattle.vmv_cert.specs.declared.row.Row.{Row}
 use Rattle.vmv_cert.specs.Sizes.{block_statements}
 use Rattle.vmv_cert.specs.Walk.{Way, goes, fails, Walk, WalksAll}
 use Rattle.vmv_cert.specs.Tables.{IsFormed, IsAbove, WalksBody, WalksRow, Passes, IsRefused}
-use Rattle.vmv_check.specs.Walker.{way_of, AreReady}
+use Rattle.vmv_step.proofs.EnterPoints.{enter_normal}
+use Rattle.vmv_check.specs.Walker.{way_at, AreReady}
 use Rattle.vmv_check.proofs.Lists.{Upto, some_same, got_in}
 use Rattle.vmv_check.proofs.Codes.{code_ready}
 use Rattle.vmv_check.proofs.Orders.{name_at}
@@ -35,6 +37,7 @@ Enters program row n start = (item : Item) (code : Code) → slice_get (procs_of
 pub record Started (program : Resolution) (code : Code) (block : List CodeStmt) (start : Zone) : Type 0 where
   pub vars : start.vars ≡ code.vars
   pub few : start.vars ≤ 16
+  pub normal : IsNormal start
   pub ready : AreReady program start.vars (block_of block)
   pub steps : 1 + block_statements (block_of block) ≤ 2001
   pub output : IsOperand start.vars (zone_operand code.result)
@@ -50,6 +53,7 @@ started program row n code block start is coded kept (item, other, f) enters sam
     record {
       vars = v;
       few = omega arith;
+      normal = (enter_normal (length (params_of item)) (declared_count item) code.vars row.input start (enters item code f.place kept)).0;
       ready = subst (λ (b : List CodeStmt). AreReady program start.vars (block_of b)) (sym same) (subst (λ k. AreReady program k (block_of code.block)) (sym v) r.block);
       steps = omega arith;
       output = subst (λ k. IsOperand k (zone_operand code.result)) (sym v) r.output;
@@ -110,6 +114,6 @@ refused_of program assumed rows i step row h is passed failed = record {
   failed = failed;
 }
 
-pub ok_walks : (w : Walk) (n : ℕ) (r : Result Zone ℕ) → SomeFormed w.program w.row n → ((item : Item) (code : Code) → IsFormed w.program w.row n item code → WalksBody w item code (way_of r)) → IsOk r → (z : Zone) × WalksRow w (goes z)
-ok_walks w n (Ok z) formed walks is = (z, row_walks w n (goes z) formed walks)
-ok_walks w n (Err m) formed walks is = absurd (search rules)
+pub ok_walks : (w : Walk) (n : ℕ) (r : Result (Unit {0}) ℕ) (z : Zone) → SomeFormed w.program w.row n → ((item : Item) (code : Code) → IsFormed w.program w.row n item code → WalksBody w item code (way_at r z)) → IsOk r → (z : Zone) × WalksRow w (goes z)
+ok_walks w n (Ok done) z formed walks is = (z, row_walks w n (goes z) formed walks)
+ok_walks w n (Err m) z formed walks is = absurd (search rules)

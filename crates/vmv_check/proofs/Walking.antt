@@ -14,7 +14,7 @@ use Rattle.vmv_snapshot.specs.Code.{plain, help, branch, [], ◌⨾◌}
 use Rattle.vmv_snapshot.specs.View.{stmt_of, block_of, stmt_of-plain, stmt_of-help, stmt_of-if, stmt_of-repeat}
 use Rattle.vmv_zone.specs.declared.zone.Zone.{Zone}
 use Rattle.vmv_zone.specs.declared.operand.ZoneValue.{ZoneValue}
-use Rattle.vmv_zone.specs.Zone.{IsBelow, IsJoin, IsNormOf}
+use Rattle.vmv_zone.specs.Zone.{IsBelow, IsJoin, IsNormal, IsNormOf}
 use Rattle.vmv_zone.specs.Step.{IsAssigned}
 use Rattle.vmv_assumption.specs.Assumed.{Assumed}
 use Rattle.vmv_step.specs.declared.stepped.Stepped.{Stepped}
@@ -22,7 +22,7 @@ use Rattle.vmv_step.specs.Steps.{IsAfter, IsBranched}
 use Rattle.vmv_step.specs.Loops.{IsHead, IsTurn, IsAgain, IsLeft}
 use Rattle.vmv_cert.specs.Sizes.{statements, block_statements, loops, block_loops}
 use Rattle.vmv_cert.specs.Walk.{Way, goes, fails, Walk, ListsOwn, Walks, WalksAll}
-use Rattle.vmv_check.specs.Walker.{way_of, loop_of, IsReady, AreReady, HasKept}
+use Rattle.vmv_check.specs.Walker.{way_at, loop_of, IsReady, AreReady, HasKept}
 use Rattle.vmv_check.proofs.Lists.{at_place}
 
 -- a block from its i-th statement on
@@ -62,41 +62,37 @@ on_ok (Ok z) P p = p
 on_ok (Err n) P p = tt
 
 -- a failure that is handed on is the same
-pub err_way : (r : Result Zone ℕ) (m : ℕ) → IsErr r → IsErrAnd r (λ n. n ≡ m) → way_of r ≡ fails m
-err_way (Ok z) m is same = absurd (search rules)
-err_way (Err n) m is same = ap fails same
+pub err_way : (r : Result (Unit {0}) ℕ) (z : Zone) (m : ℕ) → IsErr r → IsErrAnd r (λ n. n ≡ m) → way_at r z ≡ fails m
+err_way (Ok done) z m is same = absurd (search rules)
+err_way (Err n) z m is same = ap fails same
 
 -- an `if`
 
-pub if_first_fails : (w : Walk) (n k m : ℕ) (s : CodeStmt) (test : CodeTest) (first second one : List CodeStmt) (z z1 z2 : Zone) → s ≡ If test first second → one ≡ first → IsBranched test z z1 z2 →
-    WalksAll w (n + 1) k (block_of one) z1 (fails m) → Walks w n k (stmt_of s) z (fails m)
-if_first_fails w n k m s test first second one z z1 z2 is a b h =
-    let h' = subst (λ (x : List CodeStmt). WalksAll w (n + 1) k (block_of x) z1 (fails m)) a h in
-    subst (λ x. Walks w n k x z (fails m)) (sym (is_if s test first second is)) (z1, z2, fails m, b, h', refl)
+-- the statement, by slices of its parts
+pub if_of : (s : CodeStmt) (test : CodeTest) (first second one other : List CodeStmt) → s ≡ If test first second → one ≡ first → other ≡ second → stmt_of s ≡ branch test (block_of one) (block_of other)
+if_of s test first second one other is a b = is_if s test first second is ∙ (λ i. branch test (block_of (sym a i)) (block_of (sym b i)))
 
-pub if_second_fails : (w : Walk) (n k n' k' m : ℕ) (s : CodeStmt) (test : CodeTest) (first second one other : List CodeStmt) (z z1 z2 e1 : Zone) → s ≡ If test first second → one ≡ first → other ≡ second →
-    IsBranched test z z1 z2 → n' ≡ n + 1 + block_statements (block_of one) → k' ≡ k + block_loops (block_of one) → WalksAll w (n + 1) k (block_of one) z1 (goes e1) →
-    WalksAll w n' k' (block_of other) z2 (fails m) → Walks w n k (stmt_of s) z (fails m)
-if_second_fails w n k n' k' m s test first second one other z z1 z2 e1 is a a' b en ek h g =
-    let h' = subst (λ (x : List CodeStmt). WalksAll w (n + 1) k (block_of x) z1 (goes e1)) a h in
-    let en' = en ∙ ap (λ (x : List CodeStmt). n + 1 + block_statements (block_of x)) a in
-    let ek' = ek ∙ ap (λ (x : List CodeStmt). k + block_loops (block_of x)) a in
-    let g1 = subst (λ (x : List CodeStmt). WalksAll w n' k' (block_of x) z2 (fails m)) a' g in
-    let g2 = subst (λ i. WalksAll w i k' (block_of second) z2 (fails m)) en' g1 in
-    let g3 = subst (λ i. WalksAll w (n + 1 + block_statements (block_of first)) i (block_of second) z2 (fails m)) ek' g2 in
-    subst (λ x. Walks w n k x z (fails m)) (sym (is_if s test first second is)) (z1, z2, goes e1, b, h', (fails m, g3, refl))
+pub if_first_fails : (w : Walk) (n k n' m : ℕ) (test : CodeTest) (first second : List CodeStmt) (z z1 z2 : Zone) → IsBranched test z z1 z2 → n' ≡ n + 1 →
+    WalksAll w n' k (block_of first) z1 (fails m) → Walks w n k (branch test (block_of first) (block_of second)) z (fails m)
+if_first_fails w n k n' m test first second z z1 z2 b en h = (z1, z2, fails m, b, subst (λ i. WalksAll w i k (block_of first) z1 (fails m)) en h, refl)
 
-pub if_goes : (w : Walk) (n k n' k' : ℕ) (s : CodeStmt) (test : CodeTest) (first second one other : List CodeStmt) (z z1 z2 e1 e2 j : Zone) → s ≡ If test first second → one ≡ first → other ≡ second →
-    IsBranched test z z1 z2 → n' ≡ n + 1 + block_statements (block_of one) → k' ≡ k + block_loops (block_of one) → WalksAll w (n + 1) k (block_of one) z1 (goes e1) →
-    WalksAll w n' k' (block_of other) z2 (goes e2) → IsJoin e1 e2 j → Walks w n k (stmt_of s) z (goes j)
-if_goes w n k n' k' s test first second one other z z1 z2 e1 e2 j is a a' b en ek h g join =
-    let h' = subst (λ (x : List CodeStmt). WalksAll w (n + 1) k (block_of x) z1 (goes e1)) a h in
-    let en' = en ∙ ap (λ (x : List CodeStmt). n + 1 + block_statements (block_of x)) a in
-    let ek' = ek ∙ ap (λ (x : List CodeStmt). k + block_loops (block_of x)) a in
-    let g1 = subst (λ (x : List CodeStmt). WalksAll w n' k' (block_of x) z2 (goes e2)) a' g in
-    let g2 = subst (λ i. WalksAll w i k' (block_of second) z2 (goes e2)) en' g1 in
-    let g3 = subst (λ i. WalksAll w (n + 1 + block_statements (block_of first)) i (block_of second) z2 (goes e2)) ek' g2 in
-    subst (λ x. Walks w n k x z (goes j)) (sym (is_if s test first second is)) (z1, z2, goes e1, b, h', (goes e2, g3, (j, join, refl)))
+pub if_second_fails : (w : Walk) (n k n' n'' k' m : ℕ) (test : CodeTest) (first second : List CodeStmt) (z z1 z2 e1 : Zone) →
+    IsBranched test z z1 z2 → n' ≡ n + 1 → n'' ≡ n' + block_statements (block_of first) → k' ≡ k + block_loops (block_of first) → WalksAll w n' k (block_of first) z1 (goes e1) →
+    WalksAll w n'' k' (block_of second) z2 (fails m) → Walks w n k (branch test (block_of first) (block_of second)) z (fails m)
+if_second_fails w n k n' n'' k' m test first second z z1 z2 e1 b en en' ek h g =
+    let h' = subst (λ i. WalksAll w i k (block_of first) z1 (goes e1)) en h in
+    let g1 = subst (λ i. WalksAll w i k' (block_of second) z2 (fails m)) (en' ∙ ap (λ i. i + block_statements (block_of first)) en) g in
+    let g2 = subst (λ i. WalksAll w (n + 1 + block_statements (block_of first)) i (block_of second) z2 (fails m)) ek g1 in
+    (z1, z2, goes e1, b, h', (fails m, g2, refl))
+
+pub if_goes : (w : Walk) (n k n' n'' k' : ℕ) (test : CodeTest) (first second : List CodeStmt) (z z1 z2 e1 e2 j : Zone) →
+    IsBranched test z z1 z2 → n' ≡ n + 1 → n'' ≡ n' + block_statements (block_of first) → k' ≡ k + block_loops (block_of first) → WalksAll w n' k (block_of first) z1 (goes e1) →
+    WalksAll w n'' k' (block_of second) z2 (goes e2) → IsJoin e1 e2 j → Walks w n k (branch test (block_of first) (block_of second)) z (goes j)
+if_goes w n k n' n'' k' test first second z z1 z2 e1 e2 j b en en' ek h g join =
+    let h' = subst (λ i. WalksAll w i k (block_of first) z1 (goes e1)) en h in
+    let g1 = subst (λ i. WalksAll w i k' (block_of second) z2 (goes e2)) (en' ∙ ap (λ i. i + block_statements (block_of first)) en) g in
+    let g2 = subst (λ i. WalksAll w (n + 1 + block_statements (block_of first)) i (block_of second) z2 (goes e2)) ek g1 in
+    (z1, z2, goes e1, b, h', (goes e2, g2, (j, join, refl)))
 
 -- a loop
 
@@ -160,17 +156,19 @@ pub record InRow (w : Walk) (n k : ℕ) (block : List CodeStmt) (start : Zone) (
   pub along : (way : Way) → WalksAll w n' k' (block_of (drop i block)) now way → WalksAll w n k (block_of block) start way
   pub ready : AreReady w.program start.vars (block_of (drop i block))
   pub vars : now.vars ≡ start.vars
+  pub normal : IsNormal now
   pub step : n' + block_statements (block_of (drop i block)) ≡ n + block_statements (block_of block)
   pub keep : k' + block_loops (block_of (drop i block)) ≡ k + block_loops (block_of block)
   pub inside : block_statements (block_of (drop i block)) ≤ block_statements (block_of block)
 
-pub row_start : (w : Walk) (n k : ℕ) (block : List CodeStmt) (start : Zone) → AreReady w.program start.vars (block_of block) → InRow w n k block start 0 n k start
-row_start w n k block start ready = record { along = λ way h. h; ready = ready; vars = refl; step = refl; keep = refl; inside = omega arith }
+pub row_start : (w : Walk) (n k : ℕ) (block : List CodeStmt) (start : Zone) → AreReady w.program start.vars (block_of block) → IsNormal start → InRow w n k block start 0 n k start
+row_start w n k block start ready normal = record { along = λ way h. h; ready = ready; vars = refl; normal = normal; step = refl; keep = refl; inside = omega arith }
 
 -- what a statement's walk takes
 pub record Takes (w : Walk) (t n k : ℕ) (s : CodeStmt) (now : Zone) : Type 0 where
   pub falls : 3 * statements (stmt_of s) < t
   pub few : now.vars ≤ 16
+  pub normal : IsNormal now
   pub ready : IsReady w.program now.vars (stmt_of s)
   pub kept : HasKept w.row now.vars (k + loops (stmt_of s))
   pub steps : n + statements (stmt_of s) ≤ 2001
@@ -190,6 +188,7 @@ row_takes w n k block start i n' k' t now s h is row few kept steps d =
     record {
       falls = omega arith;
       few = omega arith;
+      normal = row.normal;
       ready = subst (λ c. IsReady w.program c (stmt_of s)) (sym v) r.0;
       kept = record { enough = omega arith; over = subst (λ c. All (λ (z : Zone). z.vars ≡ c) w.row.keeps) (sym v) kept.over };
       steps = omega arith;
@@ -201,8 +200,8 @@ row_stops w n k block start i n' k' m now s h is row walk =
     row.along (fails m) (subst (λ b. WalksAll w n' k' b now (fails m)) (sym (from_item block i s h is)) (fails m, walk, refl))
 
 pub row_more : (w : Walk) (n k : ℕ) (block : List CodeStmt) (start : Zone) (i n' k' n'' k'' : ℕ) (now next : Zone) (s : CodeStmt) → i < length block → s ≡ get_or block i s → InRow w n k block start i n' k' now →
-    Walks w n' k' (stmt_of s) now (goes next) → next.vars ≡ now.vars → n'' ≡ n' + statements (stmt_of s) → k'' ≡ k' + loops (stmt_of s) → InRow w n k block start (i + 1) n'' k'' next
-row_more w n k block start i n' k' n'' k'' now next s h is row walk same en ek =
+    Walks w n' k' (stmt_of s) now (goes next) → IsNormal next → next.vars ≡ now.vars → n'' ≡ n' + statements (stmt_of s) → k'' ≡ k' + loops (stmt_of s) → InRow w n k block start (i + 1) n'' k'' next
+row_more w n k block start i n' k' n'' k'' now next s h is row walk normal same en ek =
     let e = from_item block i s h is in
     let a : block_statements (block_of (drop i block)) ≡ statements (stmt_of s) + block_statements (block_of (drop (i + 1) block)) = ap block_statements e in
     let b : block_loops (block_of (drop i block)) ≡ loops (stmt_of s) + block_loops (block_of (drop (i + 1) block)) = ap block_loops e in
@@ -217,6 +216,7 @@ row_more w n k block start i n' k' n'' k'' now next s h is row walk same en ek =
           row.along way (subst (λ c. WalksAll w n' k' c now way) (sym e) (goes next, walk, g2));
       ready = r.1;
       vars = same ∙ row.vars;
+      normal = normal;
       step = omega arith;
       keep = omega arith;
       inside = omega arith;

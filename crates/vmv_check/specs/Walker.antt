@@ -23,10 +23,10 @@ use Rattle.vmv_check.specs.declared.walk.Walker.{Walker}
 abbrev pub walk_of : Walker → Walk
 walk_of w = record { program = w.snapshot.now; assumed = cond_of w.assumed.now; rows = w.rows.now; row = w.row.now }
 
--- Ok where a walk goes on, Err where it has failed
-abbrev pub way_of : Result Zone ℕ → Way
-way_of (Ok z) = goes z
-way_of (Err n) = fails n
+-- Ok where a walk goes on from the state, Err where it has failed
+abbrev pub way_at : Result (Unit {0}) ℕ → Zone → Way
+way_at (Ok done) z = goes z
+way_at (Err n) z = fails n
 
 abbrev pub loop_of : CodeRepeat → Stmt
 loop_of r = loop r.index r.slot r.bound r.cap r.site (block_of r.body)

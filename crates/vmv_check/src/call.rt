@@ -1,17 +1,18 @@
-ghost use Rattle.std.specs.Prelude.{◌≡◌, ◌↔◌, ◌≤◌, ℤ, length, IsTrue, IsNone, IfSome, IfOk};
+ghost use Rattle.std.specs.Prelude.{◌≡◌, ◌↔◌, ◌≤◌, ℤ, length, IsTrue, IsNone, IfSome, OnOk};
 ghost use Rattle.std.specs.List.{Contains};
 ghost use Rattle.vmv_cond.specs.Cond.{Holds};
-ghost use Rattle.vmv_zone.specs.Zone.{vars_of};
+ghost use Rattle.vmv_zone.specs.declared.zone.Zone.{Zone};
+ghost use Rattle.vmv_zone.specs.Zone.{vars_of, IsBelow, IsNormal, IsNormOf};
 ghost use Rattle.vmv_step.specs.Zones.{zone_operand, AreInside, IsVariable};
 ghost use Rattle.vmv_cert.specs.Walk.{Returns, IsMatch, IsReturned, AreAllowed, WalksCall};
-ghost use Rattle.vmv_check.specs.Walker.{walk_of, way_of, HasParams, SomeMatch, IsListedByAll, IsAllowedSite, IsNarrowed};
+ghost use Rattle.vmv_check.specs.Walker.{walk_of, way_at, HasParams, SomeMatch, IsListedByAll, IsAllowedSite, IsNarrowed};
 
 use crate::sites::{is_name, lists};
 use crate::walk::Walker;
 use vmv_cert::{NamedSite, Reach, Row};
 use vmv_cond::Cond;
 use vmv_snapshot::{CodeOperand, ProcId, Slot};
-use vmv_step::pass;
+use vmv_step::pass_into;
 use vmv_zone::{Zone, ZoneOperand, ZoneValue};
 
 /// The operand with a slot as the variable of its number.
@@ -59,7 +60,7 @@ impl Walker<'_> {
         if row.input.vars() != args.vars() {
             return false;
         }
-        args.below(&row.input.norm())
+        is_below(args, &row.input)
     }
 
     /// What all matching rows say is returned, and `None` where no row matches.
@@ -136,34 +137,49 @@ impl Walker<'_> {
         unreachable!()
     }
 
-    /// Walks over a call of a helper, whose number is `n`.
+    /// Walks over a call of a helper, whose number is `n`. The state of its arguments is the one that this needs.
+    #[inline(never)]
     pub(crate) fn walk_call(
         &self,
         n: u32,
         to: Slot,
         callee: ProcId,
         args: &[CodeOperand],
-        zone: Zone,
-    ) -> Result<Zone, u32>
-        requires few { vars_of zone ≤ 16 }
-        requires to { IsVariable (vars_of zone) to }
+        zone: &mut Zone,
+    ) -> Result<(), u32>
+        requires normal { IsNormal zone.old }
+        requires few { vars_of zone.old ≤ 16 }
+        requires to { IsVariable (vars_of zone.old) to }
         requires callee { HasParams (walk_of self.now).program callee.0 (length args.now) }
         requires args { length args.now ≤ 16 }
-        requires inside { AreInside (vars_of zone) args.now }
-        ensures way { WalksCall (walk_of self.now) n to callee args.now zone (way_of result) }
-        ensures vars { IfOk result (λ z. vars_of z ≡ vars_of zone) }
+        requires inside { AreInside (vars_of zone.old) args.now }
+        ensures way { WalksCall (walk_of self.now) n to callee args.now zone.old (way_at result zone.new) }
+        ensures normal { OnOk result (IsNormal zone.new) }
+        ensures vars { OnOk result (vars_of zone.new ≡ vars_of zone.old) }
     {
         if zone.is_bottom() {
-            return Ok(zone);
+            return Ok(());
         }
-        let passed = pass(args, &zone);
+        let mut passed = *zone;
+        pass_into(args, zone, &mut passed);
         let Some(cond) = self.returned(callee, &passed) else {
             return Err(n);
         };
-        let after = zone.assign(to.0, ZoneValue::Within(cond));
+        zone.store(to.0, ZoneValue::Within(cond));
         if !self.are_allowed(callee, &passed) {
             return Err(n);
         }
-        Ok(after)
+        Ok(())
     }
+}
+
+/// Whether the arguments' state is below the norm of the input. It is over as many variables.
+#[inline(never)]
+fn is_below(args: &Zone, input: &Zone) -> bool
+    requires { vars_of args.now ≡ vars_of input.now }
+    ensures { (norm : Zone) × IsNormOf input.now norm × (IsTrue result ↔ IsBelow args.now norm) }
+{
+    let mut norm = *input;
+    norm.normalize();
+    args.below(&norm)
 }

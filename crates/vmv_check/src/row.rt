@@ -5,7 +5,7 @@ ghost use Rattle.vmv_snapshot.specs.Resolution.{IsResolution};
 ghost use Rattle.vmv_zone.specs.declared.zone.Zone.{Zone};
 ghost use Rattle.vmv_cert.specs.Walk.{goes, fails};
 ghost use Rattle.vmv_cert.specs.Tables.{IsFormed, IsAbove, WalksBody, WalksRow};
-ghost use Rattle.vmv_check.specs.Walker.{walk_of, way_of};
+ghost use Rattle.vmv_check.specs.Walker.{walk_of, way_at};
 
 use crate::call::zone_operand;
 use crate::form::is_formed;
@@ -14,7 +14,6 @@ use vmv_cert::Reach;
 use vmv_cond::Cond;
 use vmv_snapshot::ProcId;
 use vmv_step::enter;
-use vmv_zone::Zone;
 
 /// Whether both are true or both are false.
 fn agree(one: bool, other: bool) -> bool
@@ -48,20 +47,20 @@ fn is_above(reach: Reach, range: Cond) -> bool
 
 impl Walker<'_> {
     /// Walks through the procedure of the row, from entering it to its return.
-    fn walk_body(&self, proc: ProcId) -> Result<Zone, u32>
+    fn walk_body(&self, proc: ProcId) -> Result<(), u32>
         requires resolution { IsResolution (walk_of self.now).program }
         requires formed { (item : Item) × (code : Code) × IsFormed (walk_of self.now).program (walk_of self.now).row proc.0 item code }
-        ensures { (item : Item) (code : Code) → IsFormed (walk_of self.now).program (walk_of self.now).row proc.0 item code → WalksBody (walk_of self.now) item code (way_of result) }
+        ensures { (z : Zone) × ((item : Item) (code : Code) → IsFormed (walk_of self.now).program (walk_of self.now).row proc.0 item code → WalksBody (walk_of self.now) item code (way_at result z)) }
     {
         let code = self.snapshot.code(proc);
-        let start = enter(self.snapshot, proc, &self.row.input);
+        let mut zone = enter(self.snapshot, proc, &self.row.input);
         let mut place = Place { step: 1, keep: 0 };
-        let end = self.walk_block(code.block.as_slice(), &mut place, start)?;
-        let range = end.range(zone_operand(code.result));
+        self.walk_block(code.block.as_slice(), &mut place, &mut zone)?;
+        let range = zone.range_normed(zone_operand(code.result));
         if !is_above(self.row.result, range) {
             return Err(place.step);
         }
-        Ok(end)
+        Ok(())
     }
 
     /// The first step of the row that fails, and `None` where its walk holds.

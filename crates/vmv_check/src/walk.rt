@@ -1,18 +1,21 @@
-ghost use Rattle.std.specs.Prelude.{◌≡◌, ◌↔◌, ◌+◌, ◌≤◌, ℕ, IsTrue, IfOk, OnOk};
-ghost use Rattle.vmv_snapshot.specs.Code.{plain};
+ghost use Rattle.std.specs.Prelude.{◌≡◌, ◌↔◌, ◌+◌, ◌≤◌, ℕ, IsTrue, OnOk};
+ghost use Rattle.vmv_snapshot.specs.Code.{plain, branch};
 ghost use Rattle.vmv_snapshot.specs.View.{stmt_of, block_of};
-ghost use Rattle.vmv_zone.specs.Zone.{vars_of, IsBelow};
-ghost use Rattle.vmv_step.specs.Steps.{IsSimpleInside};
+ghost use Rattle.vmv_zone.specs.declared.zone.Zone.{Zone};
+ghost use Rattle.vmv_zone.specs.Zone.{vars_of, IsBelow, IsNormal};
+ghost use Rattle.vmv_step.specs.Steps.{IsSimpleInside, stepped};
 ghost use Rattle.vmv_step.specs.Agree.{HasSite};
 ghost use Rattle.vmv_cert.specs.Sizes.{statements, block_statements, loops, block_loops};
 ghost use Rattle.vmv_cert.specs.Walk.{ListsOwn, IsAllowed, Walks, WalksAll};
-ghost use Rattle.vmv_check.specs.Walker.{walk_of, way_of, IsReady, AreReady, HasKept, loop_of};
+ghost use Rattle.vmv_check.specs.Walker.{walk_of, way_at, IsReady, AreReady, HasKept, loop_of};
 
 use crate::sites::lists;
 use vmv_assumption::Assumption;
 use vmv_cert::{NamedSite, Row};
-use vmv_snapshot::{CodeRepeat, CodeStmt, Simple, Snapshot};
-use vmv_step::{Stepped, again, branch, head, leave, step, turn};
+use vmv_snapshot::{CodeRepeat, CodeStmt, CodeTest, Simple, Snapshot};
+use vmv_step::{
+    again_in_place, branch_in_place, head_in_place, leave_in_place, step_in_place, turn_in_place,
+};
 use vmv_zone::Zone;
 
 /// What a walk of a row looks at.
@@ -51,44 +54,48 @@ impl Walker<'_> {
     }
 
     /// Whether the row lists the statement's site, or that is proved.
-    fn allows_step(&self, simple: &Simple, stepped: &Stepped) -> bool
-        ensures { IsTrue result ↔ IsAllowed (walk_of self.now).row simple.now stepped.now }
+    fn allows_step(&self, simple: &Simple, unproved: bool) -> bool
+        ensures { (z : Zone) → IsTrue result ↔ IsAllowed (walk_of self.now).row simple.now (stepped z unproved) }
     {
-        !stepped.unproved || self.lists_site(simple)
+        !unproved || self.lists_site(simple)
     }
 
     /// Walks over a simple statement, whose number is `n`.
-    fn walk_simple(&self, simple: &Simple, n: u32, zone: Zone) -> Result<Zone, u32>
-        requires few { vars_of zone ≤ 16 }
-        requires inside { IsSimpleInside (vars_of zone) simple.now }
-        ensures way { (k : ℕ) → Walks (walk_of self.now) n k (plain simple.now) zone (way_of result) }
-        ensures vars { IfOk result (λ z. vars_of z ≡ vars_of zone) }
+    fn walk_simple(&self, simple: &Simple, n: u32, zone: &mut Zone) -> Result<(), u32>
+        requires normal { IsNormal zone.old }
+        requires few { vars_of zone.old ≤ 16 }
+        requires inside { IsSimpleInside (vars_of zone.old) simple.now }
+        ensures way { (k : ℕ) → Walks (walk_of self.now) n k (plain simple.now) zone.old (way_at result zone.new) }
+        ensures normal { OnOk result (IsNormal zone.new) }
+        ensures vars { OnOk result (vars_of zone.new ≡ vars_of zone.old) }
     {
-        let stepped = step(simple, self.assumed, zone);
-        if !self.allows_step(simple, &stepped) {
+        let unproved = step_in_place(simple, self.assumed, zone);
+        if !self.allows_step(simple, unproved) {
             return Err(n);
         }
-        Ok(stepped.zone)
+        Ok(())
     }
 
     /// Whether the first state of a loop's head is below the state that is kept there, and its site is listed or proved.
-    fn allows_head(&self, repeat: &CodeRepeat, first: &Stepped, kept: &Zone) -> bool
-        requires { vars_of first.now.zone ≡ vars_of kept.now }
-        ensures { IsTrue result ↔ ((IsTrue first.now.unproved → ListsOwn (walk_of self.now).row repeat.now.site) × IsBelow first.now.zone kept.now) }
+    fn allows_head(&self, repeat: &CodeRepeat, unproved: bool, first: &Zone, kept: &Zone) -> bool
+        requires { vars_of first.now ≡ vars_of kept.now }
+        ensures { IsTrue result ↔ ((IsTrue unproved → ListsOwn (walk_of self.now).row repeat.now.site) × IsBelow first.now kept.now) }
     {
-        (!first.unproved || self.lists_own(repeat.site)) && first.zone.below(kept)
+        (!unproved || self.lists_own(repeat.site)) && first.below(kept)
     }
 
     /// Walks over a statement.
     #[cycle(walk)]
     #[tactic(auto, using(vmv_snapshot::specs::View::views))]
-    fn walk_stmt(&self, stmt: &CodeStmt, place: &mut Place, zone: Zone) -> Result<Zone, u32>
-        requires few { vars_of zone ≤ 16 }
-        requires ready { IsReady (walk_of self.now).program (vars_of zone) (stmt_of stmt.now) }
-        requires kept { HasKept (walk_of self.now).row (vars_of zone) (place.old.keep + loops (stmt_of stmt.now)) }
+    fn walk_stmt(&self, stmt: &CodeStmt, place: &mut Place, zone: &mut Zone) -> Result<(), u32>
+        requires normal { IsNormal zone.old }
+        requires few { vars_of zone.old ≤ 16 }
+        requires ready { IsReady (walk_of self.now).program (vars_of zone.old) (stmt_of stmt.now) }
+        requires kept { HasKept (walk_of self.now).row (vars_of zone.old) (place.old.keep + loops (stmt_of stmt.now)) }
         requires steps { place.old.step + statements (stmt_of stmt.now) ≤ 2001 }
-        ensures way { Walks (walk_of self.now) place.old.step place.old.keep (stmt_of stmt.now) zone (way_of result) }
-        ensures vars { IfOk result (λ z. vars_of z ≡ vars_of zone) }
+        ensures way { Walks (walk_of self.now) place.old.step place.old.keep (stmt_of stmt.now) zone.old (way_at result zone.new) }
+        ensures normal { OnOk result (IsNormal zone.new) }
+        ensures vars { OnOk result (vars_of zone.new ≡ vars_of zone.old) }
         ensures step { OnOk result (place.new.step ≡ place.old.step + statements (stmt_of stmt.now)) }
         ensures keep { OnOk result (place.new.keep ≡ place.old.keep + loops (stmt_of stmt.now)) }
     {
@@ -103,49 +110,83 @@ impl Walker<'_> {
                 test,
                 first,
                 second,
-            } => {
-                let (holds, fails) = branch(test, zone);
-                let one = self.walk_block(first.as_slice(), place, holds)?;
-                let other = self.walk_block(second.as_slice(), place, fails)?;
-                Ok(one.join(other))
-            }
+            } => self.walk_if(test, first.as_slice(), second.as_slice(), n, place, zone),
             CodeStmt::Repeat(repeat) => self.walk_repeat(repeat, n, place, zone),
         }
     }
 
-    /// Walks over a loop, whose number is `n`.
+    /// Walks over an `if`, whose number is `n`. The state in which its second part is walked is the one that this needs.
     #[cycle(walk)]
+    #[inline(never)]
+    fn walk_if(
+        &self,
+        test: &CodeTest,
+        first: &[CodeStmt],
+        second: &[CodeStmt],
+        n: u32,
+        place: &mut Place,
+        zone: &mut Zone,
+    ) -> Result<(), u32>
+        requires normal { IsNormal zone.old }
+        requires few { vars_of zone.old ≤ 16 }
+        requires ready { IsReady (walk_of self.now).program (vars_of zone.old) (branch test.now (block_of first.now) (block_of second.now)) }
+        requires kept { HasKept (walk_of self.now).row (vars_of zone.old) (place.old.keep + loops (branch test.now (block_of first.now) (block_of second.now))) }
+        requires step { place.old.step ≡ n + 1 }
+        requires steps { n + statements (branch test.now (block_of first.now) (block_of second.now)) ≤ 2001 }
+        ensures way { Walks (walk_of self.now) n place.old.keep (branch test.now (block_of first.now) (block_of second.now)) zone.old (way_at result zone.new) }
+        ensures normal { OnOk result (IsNormal zone.new) }
+        ensures vars { OnOk result (vars_of zone.new ≡ vars_of zone.old) }
+        ensures step { OnOk result (place.new.step ≡ n + statements (branch test.now (block_of first.now) (block_of second.now))) }
+        ensures keep { OnOk result (place.new.keep ≡ place.old.keep + loops (branch test.now (block_of first.now) (block_of second.now))) }
+    {
+        let mut other = *zone;
+        branch_in_place(test, zone, &mut other);
+        self.walk_block(first, place, zone)?;
+        self.walk_block(second, place, &mut other)?;
+        zone.join_with(&other);
+        Ok(())
+    }
+
+    /// Walks over a loop, whose number is `n`. The state of a turn is the one that this needs.
+    #[cycle(walk)]
+    #[inline(never)]
     fn walk_repeat(
         &self,
         repeat: &CodeRepeat,
         n: u32,
         place: &mut Place,
-        zone: Zone,
-    ) -> Result<Zone, u32>
-        requires few { vars_of zone ≤ 16 }
-        requires ready { IsReady (walk_of self.now).program (vars_of zone) (loop_of repeat.now) }
-        requires kept { HasKept (walk_of self.now).row (vars_of zone) (place.old.keep + loops (loop_of repeat.now)) }
+        zone: &mut Zone,
+    ) -> Result<(), u32>
+        requires normal { IsNormal zone.old }
+        requires few { vars_of zone.old ≤ 16 }
+        requires ready { IsReady (walk_of self.now).program (vars_of zone.old) (loop_of repeat.now) }
+        requires kept { HasKept (walk_of self.now).row (vars_of zone.old) (place.old.keep + loops (loop_of repeat.now)) }
         requires step { place.old.step ≡ n + 1 }
         requires steps { n + statements (loop_of repeat.now) ≤ 2001 }
-        ensures way { Walks (walk_of self.now) n place.old.keep (loop_of repeat.now) zone (way_of result) }
-        ensures vars { IfOk result (λ z. vars_of z ≡ vars_of zone) }
+        ensures way { Walks (walk_of self.now) n place.old.keep (loop_of repeat.now) zone.old (way_at result zone.new) }
+        ensures normal { OnOk result (IsNormal zone.new) }
+        ensures vars { OnOk result (vars_of zone.new ≡ vars_of zone.old) }
         ensures step { OnOk result (place.new.step ≡ n + statements (loop_of repeat.now)) }
         ensures keep { OnOk result (place.new.keep ≡ place.old.keep + loops (loop_of repeat.now)) }
     {
-        let kept = self.row.keeps.as_slice()[place.keep];
+        let kept = &self.row.keeps.as_slice()[place.keep];
         place.keep += 1;
-        let normed = kept.norm();
-        let start = turn(repeat, normed);
-        let left = leave(repeat, normed);
-        let first = head(repeat, zone);
-        if !self.allows_head(repeat, &first, &kept) {
+        let unproved = head_in_place(repeat, zone);
+        let allowed = self.allows_head(repeat, unproved, zone, kept);
+        zone.copy_from(kept);
+        zone.normalize();
+        let mut turned = *zone;
+        turn_in_place(repeat, &mut turned);
+        leave_in_place(repeat, zone);
+        if !allowed {
             return Err(n);
         }
-        let end = self.walk_block(repeat.body.as_slice(), place, start)?;
-        if !again(repeat, end).below(&kept) {
+        self.walk_block(repeat.body.as_slice(), place, &mut turned)?;
+        again_in_place(repeat, &mut turned);
+        if !turned.below(kept) {
             return Err(n);
         }
-        Ok(left)
+        Ok(())
     }
 
     /// Walks over statements in a row.
@@ -154,21 +195,22 @@ impl Walker<'_> {
         &self,
         block: &[CodeStmt],
         place: &mut Place,
-        zone: Zone,
-    ) -> Result<Zone, u32>
-        requires few { vars_of zone ≤ 16 }
-        requires ready { AreReady (walk_of self.now).program (vars_of zone) (block_of block.now) }
-        requires kept { HasKept (walk_of self.now).row (vars_of zone) (place.old.keep + block_loops (block_of block.now)) }
+        zone: &mut Zone,
+    ) -> Result<(), u32>
+        requires normal { IsNormal zone.old }
+        requires few { vars_of zone.old ≤ 16 }
+        requires ready { AreReady (walk_of self.now).program (vars_of zone.old) (block_of block.now) }
+        requires kept { HasKept (walk_of self.now).row (vars_of zone.old) (place.old.keep + block_loops (block_of block.now)) }
         requires steps { place.old.step + block_statements (block_of block.now) ≤ 2001 }
-        ensures way { WalksAll (walk_of self.now) place.old.step place.old.keep (block_of block.now) zone (way_of result) }
-        ensures vars { IfOk result (λ z. vars_of z ≡ vars_of zone) }
+        ensures way { WalksAll (walk_of self.now) place.old.step place.old.keep (block_of block.now) zone.old (way_at result zone.new) }
+        ensures normal { OnOk result (IsNormal zone.new) }
+        ensures vars { OnOk result (vars_of zone.new ≡ vars_of zone.old) }
         ensures step { OnOk result (place.new.step ≡ place.old.step + block_statements (block_of block.now)) }
         ensures keep { OnOk result (place.new.keep ≡ place.old.keep + block_loops (block_of block.now)) }
     {
-        let mut now = zone;
         for stmt in block {
-            now = self.walk_stmt(stmt, place, now)?;
+            self.walk_stmt(stmt, place, zone)?;
         }
-        Ok(now)
+        Ok(())
     }
 }

@@ -12,4 +12,4 @@ returns-then-not-is_formed-clause-fails c = not_formed (walk_of c.args.self.now)
 pub returns-in-Ok-clause-holds : goal.returns-in-Ok-clause-holds
 returns-in-Ok-clause-holds c none =
     let is : IsOk c.walk_body.result = search rules in
-    ok_walks (walk_of c.args.self.now) c.in-Some.proc.0 c.walk_body.result (c.if-not-is_formed.ensures.0 refl) c.walk_body.ensures is
+    ok_walks (walk_of c.args.self.now) c.in-Some.proc.0 c.walk_body.result c.walk_body.ensures.0 (c.if-not-is_formed.ensures.0 refl) c.walk_body.ensures.1 is
