@@ -1,5 +1,6 @@
 pub mod Sizes
 pub mod Assigning
+pub mod Shifting
 pub mod Going
 pub mod Leading
 pub mod Keeping

@@ -1,4 +1,5 @@
 pub mod Wants
+pub mod Shifts
 pub mod Needs
 pub mod Back
 pub mod Leads

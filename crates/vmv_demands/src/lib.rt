@@ -11,6 +11,7 @@ mod lead;
 mod leads;
 mod name_ends;
 mod needs;
+mod shift;
 mod want;
 
 pub use demand::{Demand, Demands};

@@ -50,9 +50,9 @@ pub(crate) fn needed(lo: i128, hi: i128) -> Option<Want>
 }
 
 /// The sum, which is far from the ends of `i128`.
-fn sum(word: i64, by: i128) -> i128
-    requires low { neg_ℤ (pos (2 ^ 63)) ≤ℤ by }
-    requires high { by ≤ℤ pos (2 ^ 63) }
+pub(crate) fn sum(word: i64, by: i128) -> i128
+    requires low { neg_ℤ (pos (2 ^ 65)) ≤ℤ by }
+    requires high { by ≤ℤ pos (2 ^ 65) }
     ensures { result ≡ word +ℤ by }
 {
     i128::from(word) + by
