@@ -1,159 +1,103 @@
+use crate::runs::snapshot_of;
 use std::alloc::Global;
-use std::test::Fail;
-use vmv_snapshot::{ProcId, Snapshot};
-use vmv_tree::{
-    Block, Body, Item, Items, Name, Names, Operand, Param, Params, Program, Rel, Stmt, Test,
-};
-use vmv_witness::{Unfit, WitnessFault, fit, read_witness, write_witness};
+use vmv_cases::Sheet;
+use vmv_snapshot::ProcId;
+use vmv_tree::{Name, NamedSite};
+use vmv_witness::{Unfit, Witness, WitnessFault, fit, read_witness, write_witness};
 
-const TEXTS: [&str; 3] = [
-    "vmv-witness 1\nentry e\nsite e#1\nanswer read 1\nend\n",
-    "vmv-witness 1\nentry e\nsite h#0\nend\n",
-    "vmv-witness 1\nentry e\nsite h#4294967295\nparam n -9223372036854775808\nparam m 0\nanswer read 9223372036854775807\nanswer read -1\nend\n",
-];
-
-#[test]
-fn writes_what_it_reads(rt: HostRuntime) -> Result<(), Fail> {
-    for text in TEXTS {
-        let witness = read_witness(rt.alloc(), text.as_bytes())?;
-        let written = write_witness(rt.alloc(), &witness)?;
-        assert_eq!(rt; written.bytes(), text.as_bytes());
-    }
-    Ok(())
+fn put_line(word: &[u8], line: u32, sheet: &mut Sheet) {
+    sheet.put(word);
+    sheet.show(&line);
+    sheet.line(b"");
 }
 
-#[test]
-fn the_parts_of_a_witness(rt: HostRuntime) -> Result<(), Fail> {
-    let witness = read_witness(rt.alloc(), TEXTS[2].as_bytes())?;
-    assert_eq!(rt; witness.entry.bytes(), b"e".as_slice());
-    assert_eq!(rt; witness.site.proc.bytes(), b"h".as_slice());
-    assert_eq!(rt; witness.site.index, u32::MAX);
-    assert_eq!(rt; witness.params.len(), 2);
+fn put_fault(fault: WitnessFault, sheet: &mut Sheet) {
+    match fault {
+        WitnessFault::Syntax { line } => put_line(b"syntax in line ", line, sheet),
+        WitnessFault::Range { line } => put_line(b"range in line ", line, sheet),
+        WitnessFault::Limit { found } => {
+            sheet.put(b"too long: ");
+            sheet.show(&found);
+            sheet.line(b" bytes");
+        }
+        WitnessFault::Memory => sheet.fall_short(),
+    }
+}
+
+/// The witness of a text. Where it has none, the fault is written.
+fn witness_of(alloc: Global, text: &[u8], sheet: &mut Sheet) -> Option<Witness> {
+    match read_witness(alloc, text) {
+        Ok(witness) => Some(witness),
+        Err(fault) => {
+            put_fault(fault, sheet);
+            None
+        }
+    }
+}
+
+fn put_named(name: &Name, value: i64, sheet: &mut Sheet) {
+    sheet.put(b" ");
+    sheet.put(name.bytes());
+    sheet.put(b" ");
+    sheet.show(&value);
+}
+
+fn put_site(site: &NamedSite, sheet: &mut Sheet) {
+    sheet.put(b" site ");
+    sheet.put(site.proc.bytes());
+    sheet.put(b" ");
+    sheet.show(&site.index);
+}
+
+fn put_witness(witness: &Witness, sheet: &mut Sheet) {
+    sheet.put(b"entry ");
+    sheet.put(witness.entry.bytes());
+    put_site(&witness.site, sheet);
+    sheet.put(b" params");
+    for param in witness.params.as_slice() {
+        put_named(&param.name, param.value, sheet);
+    }
+    sheet.put(b" answers");
     for answer in witness.answers.as_slice() {
-        assert_eq!(rt; answer.name.bytes(), b"read".as_slice());
+        put_named(&answer.name, answer.value, sheet);
     }
-    Ok(())
+    sheet.line(b"");
 }
 
-const HEAD: &str = "vmv-witness 1\nentry e\nsite e#1\n";
-
-fn syntax(line: u32) -> Option<WitnessFault> {
-    Some(WitnessFault::Syntax { line })
-}
-
-fn range(line: u32) -> Option<WitnessFault> {
-    Some(WitnessFault::Range { line })
-}
-
-#[test]
-fn departs_in_the_first_three_lines(rt: HostRuntime) -> Result<(), Fail> {
-    for (text, fault) in [
-        ("", syntax(1)),
-        ("vmv-witness 1", syntax(1)),
-        ("vmv-witness 2\n", syntax(1)),
-        ("vmv-witness 1\n", syntax(2)),
-        ("vmv-witness 1\nentry  e\n", syntax(2)),
-        ("vmv-witness 1\nentry if\n", syntax(2)),
-        ("vmv-witness 1\nentry e\nsite e 1\n", syntax(3)),
-        ("vmv-witness 1\nentry e\nsite e#01\n", syntax(3)),
-        ("vmv-witness 1\nentry e\nsite e#1", syntax(3)),
-        ("vmv-witness 1\nentry e\nsite e#4294967296\n", range(3)),
-        ("vmv-witness 1\nentry e\nsite e#-1\n", range(3)),
-        ("vmv-witness 1\nentry e\nsite if#4294967296\n", syntax(3)),
-    ] {
-        assert_eq!(rt;
-            read_witness(rt.alloc(), text.as_bytes()).err(),
-            fault,
-            "at {text}"
-        );
+/// `? witness`: the parts of the witness of a text, or the fault.
+pub fn read(alloc: Global, text: &[u8], sheet: &mut Sheet) {
+    if let Some(witness) = witness_of(alloc, text, sheet) {
+        put_witness(&witness, sheet);
     }
-    Ok(())
 }
 
-#[test]
-fn departs_behind_them(rt: HostRuntime) -> Result<(), Fail> {
-    for (lines, fault) in [
-        ("", syntax(4)),
-        ("end", syntax(4)),
-        ("end\n\n", syntax(5)),
-        ("end \n", syntax(4)),
-        ("param n 9223372036854775808\nend\n", range(4)),
-        ("param n -9223372036854775809\nend\n", range(4)),
-        ("param if 9223372036854775808\nend\n", syntax(4)),
-        ("param n -0\nend\n", syntax(4)),
-        ("param n 00\nend\n", syntax(4)),
-        ("param n +1\nend\n", syntax(4)),
-        ("param n 1 \nend\n", syntax(4)),
-        ("param n 1\r\nend\n", syntax(4)),
-        ("param n 1\nanswer f 9223372036854775808\n", range(5)),
-        ("answer f 1\nparam n 1\nend\n", syntax(5)),
-        ("answer f 1\n", syntax(5)),
-        ("answer f 1\nend\nend\n", syntax(6)),
-    ] {
-        let text = format!(in rt.alloc(); "{HEAD}{lines}")?;
-        assert_eq!(rt;
-            read_witness(rt.alloc(), text.as_bytes()).err(),
-            fault,
-            "at {lines}"
-        );
-    }
-    Ok(())
-}
-
-#[test]
-fn the_longest_text(rt: HostRuntime) -> Result<(), Fail> {
-    let longest = vec![in rt.alloc(); b'a'; 1_048_576]?;
-    assert_eq!(rt; read_witness(rt.alloc(), &longest).err(), syntax(1));
-    let longer = vec![in rt.alloc(); b'a'; 1_048_577]?;
-    let fault = WitnessFault::Limit { found: 1_048_577 };
-    assert_eq!(rt; read_witness(rt.alloc(), &longer).err(), Some(fault));
-    Ok(())
-}
-
-// The snapshot of `entry e(n: 0..50) { assert n >= 1; return n; }`.
-fn snapshot(alloc: Global) -> Result<Snapshot, Fail> {
-    let name = Name::read(b"e").ok_or("a name")?;
-    let n = Name::read(b"n").ok_or("a name")?;
-    let test = Test {
-        left: Operand::Var(n),
-        rel: Rel::AtLeast,
-        right: Operand::Lit(1),
+/// `? written`: the text that is written for the witness of a text.
+pub fn written(alloc: Global, text: &[u8], sheet: &mut Sheet) {
+    let Some(witness) = witness_of(alloc, text, sheet) else {
+        return;
     };
-    let body = Body {
-        vars: Names::new(alloc),
-        block: Block::from_vec(vec![in alloc; Stmt::Assert { test }]?),
-        result: Operand::Var(n),
-    };
-    let param = Param {
-        name: n,
-        lo: 0,
-        hi: 50,
-    };
-    let params = Params::from_vec(vec![in alloc; param]?);
-    let items = Items::from_vec(vec![in alloc; Item::Entry { name, params, body }]?);
-    Ok(Snapshot::new(alloc, Program { items })?)
+    match write_witness(alloc, &witness) {
+        Ok(written) => sheet.put(written.bytes()),
+        Err(_) => sheet.fall_short(),
+    }
 }
 
-#[test]
-fn fits(rt: HostRuntime) -> Result<(), Fail> {
-    let snapshot = snapshot(rt.alloc())?;
-    for (lines, fits) in [
-        ("entry e\nsite e#1\nparam n 0\n", Ok(ProcId(0))),
-        (
-            "entry e\nsite e#1\nparam other 50\nanswer f 1\n",
-            Ok(ProcId(0)),
-        ),
-        ("entry f\nsite e#1\nparam n 0\n", Err(Unfit::NoEntry)),
-        ("entry e\nsite e#0\n", Err(Unfit::ParamCount)),
-        ("entry e\nsite e#0\nparam n 51\n", Err(Unfit::ParamRange)),
-        ("entry e\nsite e#0\nparam n -1\n", Err(Unfit::ParamRange)),
-        ("entry e\nsite e#0\nparam n 0\n", Err(Unfit::NoSite)),
-        ("entry e\nsite e#2\nparam n 0\n", Err(Unfit::NoSite)),
-        ("entry e\nsite f#1\nparam n 0\n", Err(Unfit::NoSite)),
-    ] {
-        let text = format!(in rt.alloc(); "vmv-witness 1\n{lines}end\n")?;
-        let witness = read_witness(rt.alloc(), text.as_bytes())?;
-        assert_eq!(rt; fit(&snapshot, &witness), fits, "at {lines}");
+fn put_fit(fits: Result<ProcId, Unfit>, sheet: &mut Sheet) {
+    match fits {
+        Ok(entry) => put_line(b"fits procedure ", u32::from(entry.0), sheet),
+        Err(Unfit::NoEntry) => sheet.line(b"no entry"),
+        Err(Unfit::ParamCount) => sheet.line(b"number of parameters"),
+        Err(Unfit::ParamRange) => sheet.line(b"range of a parameter"),
+        Err(Unfit::NoSite) => sheet.line(b"no site"),
     }
-    Ok(())
+}
+
+/// `? fit PROGRAM WITNESS`: whether the witness of a text fits the program of another.
+pub fn fits(alloc: Global, program: &[u8], text: &[u8], sheet: &mut Sheet) {
+    let Some(snapshot) = snapshot_of(alloc, program, sheet) else {
+        return;
+    };
+    if let Some(witness) = witness_of(alloc, text, sheet) {
+        put_fit(fit(&snapshot, &witness), sheet);
+    }
 }
