@@ -1,19 +1,10 @@
 //! A review gate for revisions of small procedural programs.
 #![tactic(auto)]
 
-mod command;
-mod faults;
-mod output;
-mod replays;
-mod review;
-mod task;
-mod texts;
-mod words;
-
-pub use command::run;
 use std::env;
 use std::io::{Error, ErrorKind};
 use std::process::ExitCode;
+use vmv_command::run;
 use vmv_edge::{FaultlessDoor, FaultlessVault, FileShelf, StreamSink};
 
 // The words behind the program's name, or none where one of them isn't UTF-8.

@@ -1,8 +1,8 @@
-use crate::run;
 use std::alloc::{AllocError, Global};
 use std::process::Abort;
 use std::test::Fail;
 use std::thread::Threads;
+use vmv_command::run;
 use vmv_edge::{FaultlessDoor, FaultlessShelf, FaultlessVault, MemoryShelf, MemorySink, Shelf};
 
 const SUM: &str = "entry e() { var x; x = 2 + 3; assert x == 5; return x; }";
