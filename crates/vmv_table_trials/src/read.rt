@@ -125,7 +125,9 @@ pub fn read_table(alloc: Global, text: &[u8], sheet: &mut Sheet) -> Table {
     }
     let mut again = Sheet::new(alloc);
     put_table(alloc, &table, &mut again);
-    if again.bytes() != text {
+    if again.is_short() {
+        sheet.fall_short();
+    } else if again.bytes() != text {
         sheet.refuse();
     }
     table
