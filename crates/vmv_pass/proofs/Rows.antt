@@ -2,7 +2,7 @@
 use Rattle.std.proofs.Common.{◌≡◌, ℕ, zero, suc, ◌+◌, ◌*◌, ◌<◌, ◌≤◌, Some, List, [], ◌∷◌, ◌++◌, length, map, drop, get_or, slice_get, refl, sym, ap, subst, arith, ◌∙◌}
 use Rattle.std.specs.List.{All}
 use Rattle.std.proofs.lemmas.List.{drop_all}
-use Rattle.vmv_snapshot.specs.declared.code.CodeStmt.{CodeStmt, If, Help}
+use Rattle.vmv_snapshot.specs.declared.code.CodeStmt.{CodeStmt, Help}
 use Rattle.vmv_snapshot.specs.declared.code.Slot.{Slot}
 use Rattle.vmv_snapshot.specs.declared.code.ProcId.{ProcId}
 use Rattle.vmv_snapshot.specs.declared.code.CodeOperand.{CodeOperand}
@@ -11,11 +11,11 @@ use Rattle.vmv_snapshot.specs.Code.{Stmt, help, branch, Block, [], ◌⨾◌}
 use Rattle.vmv_snapshot.specs.Resolution.{Resolution}
 use Rattle.vmv_snapshot.specs.View.{stmt_of, block_of}
 use Rattle.vmv_zone.specs.declared.zone.Zone.{Zone}
-use Rattle.vmv_zone.specs.Zone.{vars_of, IsJoin}
+use Rattle.vmv_zone.specs.Zone.{vars_of, IsNormal, IsJoin}
 use Rattle.vmv_step.specs.Steps.{IsBranched}
 use Rattle.vmv_cert.specs.Sizes.{statements, block_statements, loops, block_loops}
 use Rattle.vmv_check.specs.Walker.{IsReady, AreReady}
-use Rattle.vmv_check.proofs.Walking.{from_item, is_if, is_help}
+use Rattle.vmv_check.proofs.Walking.{from_item, is_help}
 use Rattle.vmv_check.proofs.Lists.{some_same}
 use Rattle.vmv_pass.specs.Callees.{callees, block_callees}
 use Rattle.vmv_pass.specs.Moves.{Given, Lists, Moves, MovesAll, AreCalled, HasKeeps, HasSites, HaveSites}
@@ -29,6 +29,7 @@ pub record InRow (program : Resolution) (given : Given) (count k c : ℕ) (block
   pub sites : HaveSites count (block_of (drop i block))
   pub called : AreCalled program (map vars_of S.inputs) c' (block_callees (block_of (drop i block)))
   pub vars : now.vars ≡ start.vars
+  pub normal : IsNormal now
   pub over : All (λ (z : Zone). z.vars ≡ start.vars) S'.keeps
   pub sizes : map vars_of S'.inputs ≡ map vars_of S.inputs
   pub keep : k' + block_loops (block_of (drop i block)) ≡ k + block_loops (block_of block)
@@ -36,13 +37,14 @@ pub record InRow (program : Resolution) (given : Given) (count k c : ℕ) (block
   pub inside : block_statements (block_of (drop i block)) ≤ block_statements (block_of block)
 
 pub row_start : (program : Resolution) (given : Given) (count k c : ℕ) (block : List CodeStmt) (start : Zone) (S : Lists) → AreReady program start.vars (block_of block) → HaveSites count (block_of block) →
-    HasKeeps start.vars (k + block_loops (block_of block)) S.keeps → AreCalled program (map vars_of S.inputs) c (block_callees (block_of block)) → InRow program given count k c block start S 0 k c start S
-row_start program given count k c block start S ready sites kept called =
-    record { along = λ e T h. h; ready = ready; sites = sites; called = called; vars = refl; over = kept.over; sizes = refl; keep = refl; call = refl; inside = omega arith }
+    HasKeeps start.vars (k + block_loops (block_of block)) S.keeps → AreCalled program (map vars_of S.inputs) c (block_callees (block_of block)) → IsNormal start → InRow program given count k c block start S 0 k c start S
+row_start program given count k c block start S ready sites kept called normal =
+    record { along = λ e T h. h; ready = ready; sites = sites; called = called; vars = refl; normal = normal; over = kept.over; sizes = refl; keep = refl; call = refl; inside = omega arith }
 
 -- what a pass over a statement takes
 pub record TakesOne (program : Resolution) (t count k c : ℕ) (s : CodeStmt) (now : Zone) (S : Lists) : Type 0 where
   pub falls : 3 * statements (stmt_of s) < t
+  pub normal : IsNormal now
   pub few : now.vars ≤ 16
   pub ready : IsReady program now.vars (stmt_of s)
   pub sites : HasSites count (stmt_of s)
@@ -68,6 +70,7 @@ row_takes program given count k c block start S i k' c' t now S' s h is row few 
     let w = row.vars in
     record {
       falls = omega arith;
+      normal = row.normal;
       few = omega arith;
       ready = subst (λ n. IsReady program n (stmt_of s)) (sym w) r.0;
       sites = u.0;
@@ -77,9 +80,9 @@ row_takes program given count k c block start S i k' c' t now S' s h is row few 
     }
 
 pub row_more : (program : Resolution) (given : Given) (count k c : ℕ) (block : List CodeStmt) (start : Zone) (S : Lists) (i k' c' k'' c'' : ℕ) (now next : Zone) (S' S'' : Lists) (s : CodeStmt) → i < length block → s ≡ get_or block i s →
-    InRow program given count k c block start S i k' c' now S' → Moves given k' c' (stmt_of s) now S' next S'' → next.vars ≡ now.vars → All (λ (z : Zone). z.vars ≡ now.vars) S''.keeps → map vars_of S''.inputs ≡ map vars_of S'.inputs →
+    InRow program given count k c block start S i k' c' now S' → Moves given k' c' (stmt_of s) now S' next S'' → IsNormal next → next.vars ≡ now.vars → All (λ (z : Zone). z.vars ≡ now.vars) S''.keeps → map vars_of S''.inputs ≡ map vars_of S'.inputs →
     k'' ≡ k' + loops (stmt_of s) → c'' ≡ c' + length (callees (stmt_of s)) → InRow program given count k c block start S (i + 1) k'' c'' next S''
-row_more program given count k c block start S i k' c' k'' c'' now next S' S'' s h is row moves same over sizes ek ec =
+row_more program given count k c block start S i k' c' k'' c'' now next S' S'' s h is row moves normal same over sizes ek ec =
     let rest = block_of (drop (i + 1) block) in
     let e : block_of (drop i block) ≡ stmt_of s ⨾ rest = from_item block i s h is in
     let a : block_statements (block_of (drop i block)) ≡ statements (stmt_of s) + block_statements rest = ap block_statements e in
@@ -102,6 +105,7 @@ row_more program given count k c block start S i k' c' k'' c'' now next S' S'' s
       sites = u.1;
       called = subst (λ j. AreCalled program (map vars_of S.inputs) j (block_callees rest)) (sym ec) (called_second program (map vars_of S.inputs) c' (callees (stmt_of s)) (block_callees rest) v);
       vars = same ∙ row.vars;
+      normal = normal;
       over = subst (λ n. All (λ (z : Zone). z.vars ≡ n) S''.keeps) row.vars over;
       sizes = sizes ∙ row.sizes;
       keep = omega arith;
@@ -113,6 +117,7 @@ row_more program given count k c block start S i k' c' k'' c'' now next S' S'' s
 pub record RowEnds (given : Given) (k c : ℕ) (block : List CodeStmt) (start : Zone) (S : Lists) (k' c' : ℕ) (now : Zone) (S' : Lists) : Type 0 where
   pub moves : MovesAll given k c (block_of block) start S now S'
   pub vars : now.vars ≡ start.vars
+  pub normal : IsNormal now
   pub over : All (λ (z : Zone). z.vars ≡ start.vars) S'.keeps
   pub sizes : map vars_of S'.inputs ≡ map vars_of S.inputs
   pub keep : k' ≡ k + block_loops (block_of block)
@@ -129,6 +134,7 @@ row_end program given count k c block start S i k' c' now S' h row =
     record {
       moves = row.along now S' (subst (λ (b : List CodeStmt). MovesAll given k' c' (block_of b) now S' now S') (sym none) (refl, refl));
       vars = row.vars;
+      normal = row.normal;
       over = row.over;
       sizes = row.sizes;
       keep = omega arith;
@@ -157,51 +163,38 @@ pub record IfParts (program : Resolution) (vars count n m : ℕ) (sizes : List �
   pub one : Part program vars count n m sizes t k c first
   pub other : Part program vars count n m sizes t (k + block_loops first) (c + length (block_callees first)) second
 
-pub if_parts : (program : Resolution) (vars count n m : ℕ) (sizes : List ℕ) (t k c : ℕ) (s : CodeStmt) (test : CodeTest) (first second : List CodeStmt) → s ≡ If test first second → IsReady program vars (stmt_of s) → HasSites count (stmt_of s) →
-    k + loops (stmt_of s) ≤ n → AreCalled program sizes c (callees (stmt_of s)) → c + length (callees (stmt_of s)) ≤ m → 3 * statements (stmt_of s) ≡ t → IfParts program vars count n m sizes t k c (block_of first) (block_of second)
-if_parts program vars count n m sizes t k c s test first second is ready sites enough called calls d =
-    let e = is_if s test first second is in
-    let xs = block_callees (block_of first) in
-    let ys = block_callees (block_of second) in
-    let r : IsReady program vars (branch test (block_of first) (block_of second)) = subst (IsReady program vars) e ready in
-    let u : HasSites count (branch test (block_of first) (block_of second)) = subst (HasSites count) e sites in
-    let v : AreCalled program sizes c (xs ++ ys) = subst (λ (x : Stmt). AreCalled program sizes c (callees x)) e called in
-    let a : loops (stmt_of s) ≡ block_loops (block_of first) + block_loops (block_of second) = ap loops e in
-    let b : length (callees (stmt_of s)) ≡ length xs + length ys = ap (λ (x : Stmt). length (callees x)) e ∙ append_long xs ys in
-    let f : statements (stmt_of s) ≡ 1 + block_statements (block_of first) + block_statements (block_of second) = ap statements e in
+pub if_parts : (program : Resolution) (vars count n m : ℕ) (sizes : List ℕ) (t k c : ℕ) (test : CodeTest) (first second : Block) → IsReady program vars (branch test first second) → HasSites count (branch test first second) →
+    k + loops (branch test first second) ≤ n → AreCalled program sizes c (callees (branch test first second)) → c + length (callees (branch test first second)) ≤ m → 3 * (block_statements first + block_statements second) + 2 ≡ t →
+    IfParts program vars count n m sizes t k c first second
+if_parts program vars count n m sizes t k c test first second ready sites enough called calls d =
+    let xs = block_callees first in
+    let ys = block_callees second in
+    let b : length (xs ++ ys) ≡ length xs + length ys = append_long xs ys in
+    let calls' : c + length (xs ++ ys) ≤ m = calls in
+    let enough' : k + (block_loops first + block_loops second) ≤ n = enough in
     record {
-      one = record { falls = omega arith; ready = r.1; sites = u.0; enough = omega arith; called = called_first program sizes c xs ys v; calls = omega arith };
-      other = record { falls = omega arith; ready = r.2; sites = u.1; enough = omega arith; called = called_second program sizes c xs ys v; calls = omega arith };
+      one = record { falls = omega arith; ready = ready.1; sites = sites.0; enough = omega arith; called = called_first program sizes c xs ys called; calls = omega arith };
+      other = record { falls = omega arith; ready = ready.2; sites = sites.1; enough = omega arith; called = called_second program sizes c xs ys called; calls = omega arith };
     }
 
-pub if_moves : (given : Given) (k c k' c' : ℕ) (s : CodeStmt) (test : CodeTest) (first second one other : List CodeStmt) (z z1 z2 e1 e2 j : Zone) (S S1 S2 : Lists) → s ≡ If test first second → one ≡ first → other ≡ second → IsBranched test z z1 z2 →
-    k' ≡ k + block_loops (block_of one) → c' ≡ c + length (block_callees (block_of one)) → MovesAll given k c (block_of one) z1 S e1 S1 → MovesAll given k' c' (block_of other) z2 S1 e2 S2 → IsJoin e1 e2 j → Moves given k c (stmt_of s) z S j S2
-if_moves given k c k' c' s test first second one other z z1 z2 e1 e2 j S S1 S2 is a a' b ek ec h g join =
-    let h' = subst (λ (x : List CodeStmt). MovesAll given k c (block_of x) z1 S e1 S1) a h in
-    let ek' = ek ∙ ap (λ (x : List CodeStmt). k + block_loops (block_of x)) a in
-    let ec' = ec ∙ ap (λ (x : List CodeStmt). c + length (block_callees (block_of x))) a in
-    let g1 = subst (λ (x : List CodeStmt). MovesAll given k' c' (block_of x) z2 S1 e2 S2) a' g in
-    let g2 = subst (λ i. MovesAll given i c' (block_of second) z2 S1 e2 S2) ek' g1 in
-    let g3 = subst (λ i. MovesAll given (k + block_loops (block_of first)) i (block_of second) z2 S1 e2 S2) ec' g2 in
-    subst (λ x. Moves given k c x z S j S2) (sym (is_if s test first second is)) (z1, z2, e1, e2, S1, b, h', g3, join)
+pub if_moves : (given : Given) (k c k' c' : ℕ) (test : CodeTest) (first second : Block) (z z1 z2 e1 e2 j : Zone) (S S1 S2 : Lists) → IsBranched test z z1 z2 →
+    k' ≡ k + block_loops first → c' ≡ c + length (block_callees first) → MovesAll given k c first z1 S e1 S1 → MovesAll given k' c' second z2 S1 e2 S2 → IsJoin e1 e2 j → Moves given k c (branch test first second) z S j S2
+if_moves given k c k' c' test first second z z1 z2 e1 e2 j S S1 S2 b ek ec h g join =
+    let g2 = subst (λ i. MovesAll given i c' second z2 S1 e2 S2) ek g in
+    let g3 = subst (λ i. MovesAll given (k + block_loops first) i second z2 S1 e2 S2) ec g2 in
+    (z1, z2, e1, e2, S1, b, h, g3, join)
 
-pub if_calls : (c c' c'' : ℕ) (s : CodeStmt) (test : CodeTest) (first second one other : List CodeStmt) → s ≡ If test first second → one ≡ first → other ≡ second → c' ≡ c + length (block_callees (block_of one)) →
-    c'' ≡ c' + length (block_callees (block_of other)) → c'' ≡ c + length (callees (stmt_of s))
-if_calls c c' c'' s test first second one other is a a' e e' =
-    let xs = block_callees (block_of first) in
-    let ys = block_callees (block_of second) in
-    let b : length (callees (stmt_of s)) ≡ length xs + length ys = ap (λ (x : Stmt). length (callees x)) (is_if s test first second is) ∙ append_long xs ys in
-    let f = ap (λ (x : List CodeStmt). length (block_callees (block_of x))) a in
-    let f' = ap (λ (x : List CodeStmt). length (block_callees (block_of x))) a' in
-    omega arith
+pub if_calls : (c c' c'' : ℕ) (test : CodeTest) (first second : Block) → c' ≡ c + length (block_callees first) → c'' ≡ c' + length (block_callees second) → c'' ≡ c + length (callees (branch test first second))
+if_calls c c' c'' test first second e e' =
+    let b : length (block_callees first ++ block_callees second) ≡ length (block_callees first) + length (block_callees second) = append_long (block_callees first) (block_callees second) in
+    let g : c'' ≡ c + length (block_callees first ++ block_callees second) = omega arith in
+    g
 
--- the state of an element
 map_back : {X : Type 0} (f : X → ℕ) (xs : List X) (k n : ℕ) → slice_get (map f xs) k ≡ Some n → (d : X) → f (get_or xs k d) ≡ n
 map_back f [] k n e d = absurd (cc)
 map_back f (x ∷ xs) zero n e d = some_same e
 map_back f (x ∷ xs) (suc k) n e d = map_back f xs k n e d
 
--- the input of a call is over its callee's parameters
 pub call_size : (program : Resolution) (vars : ℕ) (inputs : List Zone) (c : ℕ) (s : CodeStmt) (to : Slot) (callee : ProcId) (args slice : List CodeOperand) → s ≡ Help to callee args → slice ≡ args → IsReady program vars (stmt_of s) →
     AreCalled program (map vars_of inputs) c (callees (stmt_of s)) → (d : Zone) → vars_of (get_or inputs c d) ≡ length slice
 call_size program vars inputs c s to callee args slice is same ready called d =

@@ -1,5 +1,5 @@
 -- Lists with one element changed, and lists that go along with one another.
-use Rattle.std.proofs.Common.{◌≡◌, ◌⊎◌, inl, inr, ⊎_elim, ℕ, zero, suc, ◌+◌, Some, List, [], ◌∷◌, ◌++◌, length, map, get_or, slice_get, slice_set, refl, sym, ap, subst, arith, ◌∙◌}
+use Rattle.std.proofs.Common.{◌≡◌, ◌⊎◌, inl, inr, ⊎_elim, ℕ, zero, suc, ◌+◌, Some, List, [], ◌∷◌, ◌++◌, length, map, get_or, slice_get, slice_set, refl, sym, ap, subst, arith, ◌∙◌, ◌<◌}
 use Rattle.std.specs.List.{All, AllZip, sum_by}
 use Rattle.std.proofs.lemmas.List.Sums.{sum_by-set}
 use Rattle.std.proofs.lemmas.Option.{get_or_from_slice_get}
@@ -101,3 +101,9 @@ set_cases (z ∷ xs) zero (suc i) x y e = inr e
 set_cases (z ∷ xs) (suc k) zero x y e = inr e
 set_cases (z ∷ xs) (suc k) (suc i) x y e =
     ⊎_elim (λ (h : (i ≡ k) × (x ≡ y)). inl (ap suc h.0, h.1)) (λ (h : slice_get xs i ≡ Some y). inr h) (set_cases xs k i x y e)
+
+-- what was put at a place is what stands there
+pub set_here : {X : Type 0} (xs : List X) (k : ℕ) (x y : X) → k < length xs → slice_get (slice_set xs k x) k ≡ Some y → x ≡ y
+set_here [] k x y h e = absurd (omega arith)
+set_here (z ∷ xs) zero x y h e = some_same e
+set_here (z ∷ xs) (suc k) x y h e = set_here xs k x y (omega (arith, h)) e

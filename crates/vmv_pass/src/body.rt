@@ -51,13 +51,13 @@ pub fn raise<L: Ledger>(
 {
     let _program = at.snapshot.program();
     let code = at.snapshot.code(at.proc);
-    let start = enter(at.snapshot, at.proc, at.input);
+    let mut zone = enter(at.snapshot, at.proc, at.input);
     let mut mark = Mark {
         keep: 0,
         call: 0,
         raised: false,
     };
-    let end = pass_block(
+    pass_block(
         at,
         code.block.as_slice(),
         keeps,
@@ -65,10 +65,10 @@ pub fn raise<L: Ledger>(
         unproved,
         &mut mark,
         steps,
-        start,
+        &mut zone,
     );
     Passed {
-        range: end.range(zone_operand(code.result)),
+        range: zone.range_normed(zone_operand(code.result)),
         raised: mark.raised,
     }
 }

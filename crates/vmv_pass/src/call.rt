@@ -2,14 +2,14 @@ ghost use Rattle.std.specs.Prelude.{◌≡◌, ◌<◌, ◌≤◌, ℕ, Bool, Li
 ghost use Rattle.vmv_snapshot.specs.declared.code.ProcId.{ProcId};
 ghost use Rattle.vmv_snapshot.specs.Code.{help};
 ghost use Rattle.vmv_zone.specs.declared.zone.Zone.{Zone};
-ghost use Rattle.vmv_zone.specs.Zone.{vars_of};
+ghost use Rattle.vmv_zone.specs.Zone.{vars_of, IsNormal};
 ghost use Rattle.vmv_step.specs.Zones.{zone_operand, AreInside, IsVariable};
 ghost use Rattle.vmv_pass.specs.Moves.{given_of, lists, Moves};
 
 use crate::keep::take_input;
 use crate::place::Place;
 use vmv_snapshot::{CodeOperand, ProcId, Slot};
-use vmv_step::pass;
+use vmv_step::pass_into;
 use vmv_zone::{Zone, ZoneOperand, ZoneValue};
 
 /// The operand with a slot as the variable of its number.
@@ -22,7 +22,9 @@ pub(crate) fn zone_operand(operand: CodeOperand) -> ZoneOperand
     }
 }
 
-/// Passes over the call of a helper, which is the `c`-th: raises its input, and goes on with what is stored as its result.
+/// Passes over the call of a helper, which is the `c`-th: raises its input, and goes on with what is stored as its result. The
+/// state of the arguments is the one that this needs.
+#[inline(never)]
 pub(crate) fn pass_call(
     at: &Place<'_>,
     to: Slot,
@@ -30,24 +32,27 @@ pub(crate) fn pass_call(
     c: usize,
     inputs: &mut [Zone],
     raised: &mut bool,
-    zone: Zone,
-) -> Zone
-    requires few { vars_of zone ≤ 16 }
-    requires to { IsVariable (vars_of zone) to }
+    zone: &mut Zone,
+)
+    requires normal { IsNormal zone.old }
+    requires few { vars_of zone.old ≤ 16 }
+    requires to { IsVariable (vars_of zone.old) to }
     requires count { length args.now ≤ 16 }
-    requires inside { AreInside (vars_of zone) args.now }
+    requires inside { AreInside (vars_of zone.old) args.now }
     requires input { c < length inputs.old }
     requires size { (d : Zone) → vars_of (get_or inputs.old c d) ≡ length args.now }
     requires results { length at.now.results.now ≡ length inputs.old }
-    ensures moves { (k : ℕ) (callee : ProcId) (keeps : List Zone) (flags : List Bool) (steps : ℕ) → Moves (given_of at.now) k c (help to callee args.now) zone (lists keeps inputs.old flags raised.old steps) result (lists keeps inputs.new flags raised.new steps) }
-    ensures vars { vars_of result ≡ vars_of zone }
+    ensures moves { (k : ℕ) (callee : ProcId) (keeps : List Zone) (flags : List Bool) (steps : ℕ) → Moves (given_of at.now) k c (help to callee args.now) zone.old (lists keeps inputs.old flags raised.old steps) zone.new (lists keeps inputs.new flags raised.new steps) }
+    ensures normal { IsNormal zone.new }
+    ensures vars { vars_of zone.new ≡ vars_of zone.old }
     ensures sizes { map vars_of inputs.new ≡ map vars_of inputs.old }
 {
     if zone.is_bottom() {
-        return zone;
+        return;
     }
-    let passed = pass(args, &zone);
+    let mut passed = *zone;
+    pass_into(args, zone, &mut passed);
     take_input(c, &passed, inputs, raised);
     let cond = at.results[c];
-    zone.assign(to.0, ZoneValue::Within(cond))
+    zone.store(to.0, ZoneValue::Within(cond));
 }

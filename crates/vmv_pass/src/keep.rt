@@ -1,7 +1,8 @@
-ghost use Rattle.std.specs.Prelude.{◌≡◌, ◌<◌, ◌≤◌, ℕ, Bool, List, length, map, get_or};
+ghost use Rattle.std.specs.Prelude.{◌≡◌, ◌<◌, ◌≤◌, ℕ, Bool, Some, List, length, map, get_or, slice_get};
 ghost use Rattle.std.specs.List.{All};
 ghost use Rattle.vmv_zone.specs.declared.zone.Zone.{Zone};
-ghost use Rattle.vmv_zone.specs.Zone.{vars_of};
+ghost use Rattle.vmv_zone.specs.Zone.{vars_of, IsJoin, IsNormOf};
+ghost use Rattle.vmv_zone.specs.Round.{IsRounded};
 ghost use Rattle.vmv_step.specs.Agree.{HasSite};
 ghost use Rattle.vmv_pass.specs.Upper.{AreScale};
 ghost use Rattle.vmv_pass.specs.Moves.{given_of, lists, Keeps, Takes, flagged};
@@ -12,8 +13,8 @@ use std::sync::ledger::Ledger;
 use vmv_snapshot::Simple;
 use vmv_zone::Zone;
 
-/// Raises the state that is kept at the loop of this number so that it is above the one that is seen there. Answers what
-/// is kept then. A raising is one step.
+/// Raises the state that is kept at the loop of this number so that it is above the one that is seen there. A raising is
+/// one step.
 pub(crate) fn raise_keep<L: Ledger>(
     at: &Place<'_>,
     k: usize,
@@ -21,23 +22,30 @@ pub(crate) fn raise_keep<L: Ledger>(
     keeps: &mut [Zone],
     raised: &mut bool,
     steps: &mut Steps<L>,
-) -> Zone
+)
     requires inside { k < length keeps.old }
     requires over { All (λ z. vars_of z ≡ vars_of seen.now) keeps.old }
     requires scale { AreScale at.now.thresholds.now }
-    ensures keeps { (inputs : List Zone) (flags : List Bool) → Keeps (given_of at.now) k seen.now (lists keeps.old inputs flags raised.old steps.old) result (lists keeps.new inputs flags raised.new steps.new) }
-    ensures vars { vars_of result ≡ vars_of seen.now }
+    ensures keeps { (inputs : List Zone) (flags : List Bool) (kept : Zone) → slice_get keeps.new k ≡ Some kept → Keeps (given_of at.now) k seen.now (lists keeps.old inputs flags raised.old steps.old) kept (lists keeps.new inputs flags raised.new steps.new) }
     ensures over { All (λ z. vars_of z ≡ vars_of seen.now) keeps.new }
 {
-    let old = keeps[k];
-    if seen.below(&old) {
-        return old;
+    if seen.below(&keeps[k]) {
+        return;
     }
-    let kept = old.join(*seen).round_up(at.thresholds);
-    keeps[k] = kept;
+    raise_state(&mut keeps[k], seen, at.thresholds);
     *raised = true;
     steps.tick();
-    kept
+}
+
+/// Raises the state to the least threshold state above it and the other one.
+fn raise_state(kept: &mut Zone, seen: &Zone, thresholds: &[i128])
+    requires vars { vars_of kept.old ≡ vars_of seen.now }
+    requires scale { AreScale thresholds.now }
+    ensures raised { (both : Zone) × IsJoin kept.old seen.now both × IsRounded thresholds.now both kept.new }
+    ensures vars { vars_of kept.new ≡ vars_of kept.old }
+{
+    kept.join_with(seen);
+    kept.raise_to(thresholds);
 }
 
 /// Raises the input of the call of this number so that it is above these arguments.
@@ -47,12 +55,20 @@ pub(crate) fn take_input(c: usize, args: &Zone, inputs: &mut [Zone], raised: &mu
     ensures takes { (keeps : List Zone) (flags : List Bool) (steps : ℕ) → Takes c args.now (lists keeps inputs.old flags raised.old steps) (lists keeps inputs.new flags raised.new steps) }
     ensures sizes { map vars_of inputs.new ≡ map vars_of inputs.old }
 {
-    let old = inputs[c];
-    if args.below(&old) {
+    if args.below(&inputs[c]) {
         return;
     }
-    inputs[c] = old.join(*args).norm();
+    raise_input(&mut inputs[c], args);
     *raised = true;
+}
+
+/// Raises the input to the norm of the least state above it and the arguments.
+fn raise_input(input: &mut Zone, args: &Zone)
+    requires vars { vars_of input.old ≡ vars_of args.now }
+    ensures { (both : Zone) × IsJoin input.old args.now both × IsNormOf both input.new }
+{
+    input.join_with(args);
+    input.normalize();
 }
 
 /// Stores whether the statement's site is unproved, where it has one.

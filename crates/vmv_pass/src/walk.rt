@@ -1,9 +1,9 @@
 ghost use Rattle.std.specs.Prelude.{◌≡◌, ◌+◌, ◌≤◌, ℕ, Bool, List, length, map};
 ghost use Rattle.std.specs.List.{All};
-ghost use Rattle.vmv_snapshot.specs.Code.{plain};
+ghost use Rattle.vmv_snapshot.specs.Code.{plain, branch};
 ghost use Rattle.vmv_snapshot.specs.View.{stmt_of, block_of};
 ghost use Rattle.vmv_zone.specs.declared.zone.Zone.{Zone};
-ghost use Rattle.vmv_zone.specs.Zone.{vars_of};
+ghost use Rattle.vmv_zone.specs.Zone.{vars_of, IsNormal};
 ghost use Rattle.vmv_step.specs.Steps.{IsSimpleInside};
 ghost use Rattle.vmv_cert.specs.Sizes.{loops, block_loops};
 ghost use Rattle.vmv_check.specs.Walker.{IsReady, AreReady, loop_of};
@@ -16,21 +16,24 @@ use crate::keep::{flag_site, raise_keep};
 use crate::place::{Mark, Place};
 use crate::steps::Steps;
 use std::sync::ledger::Ledger;
-use vmv_snapshot::{CodeRepeat, CodeStmt, Simple};
-use vmv_step::{again, branch, head, leave, step, turn};
+use vmv_snapshot::{CodeRepeat, CodeStmt, CodeTest, Simple};
+use vmv_step::{
+    again_in_place, branch_in_place, head_in_place, leave_in_place, step_in_place, turn_in_place,
+};
 use vmv_zone::Zone;
 
 /// Passes over a simple statement.
-fn pass_simple(at: &Place<'_>, simple: &Simple, unproved: &mut [bool], zone: Zone) -> Zone
-    requires few { vars_of zone ≤ 16 }
-    requires inside { IsSimpleInside (vars_of zone) simple.now }
+fn pass_simple(at: &Place<'_>, simple: &Simple, unproved: &mut [bool], zone: &mut Zone)
+    requires normal { IsNormal zone.old }
+    requires few { vars_of zone.old ≤ 16 }
+    requires inside { IsSimpleInside (vars_of zone.old) simple.now }
     requires sites { HasSites (length unproved.old) (plain simple.now) }
-    ensures moves { (k c : ℕ) (keeps inputs : List Zone) (raised : Bool) (steps : ℕ) → Moves (given_of at.now) k c (plain simple.now) zone (lists keeps inputs unproved.old raised steps) result (lists keeps inputs unproved.new raised steps) }
-    ensures vars { vars_of result ≡ vars_of zone }
+    ensures moves { (k c : ℕ) (keeps inputs : List Zone) (raised : Bool) (steps : ℕ) → Moves (given_of at.now) k c (plain simple.now) zone.old (lists keeps inputs unproved.old raised steps) zone.new (lists keeps inputs unproved.new raised steps) }
+    ensures normal { IsNormal zone.new }
+    ensures vars { vars_of zone.new ≡ vars_of zone.old }
 {
-    let stepped = step(simple, at.assumed, zone);
-    flag_site(simple, stepped.unproved, unproved);
-    stepped.zone
+    let flag = step_in_place(simple, at.assumed, zone);
+    flag_site(simple, flag, unproved);
 }
 
 /// Passes over a statement.
@@ -44,19 +47,21 @@ fn pass_stmt<L: Ledger>(
     unproved: &mut [bool],
     mark: &mut Mark,
     steps: &mut Steps<L>,
-    zone: Zone,
-) -> Zone
-    requires few { vars_of zone ≤ 16 }
-    requires ready { IsReady at.now.snapshot.now (vars_of zone) (stmt_of stmt.now) }
+    zone: &mut Zone,
+)
+    requires normal { IsNormal zone.old }
+    requires few { vars_of zone.old ≤ 16 }
+    requires ready { IsReady at.now.snapshot.now (vars_of zone.old) (stmt_of stmt.now) }
     requires sites { HasSites (length unproved.old) (stmt_of stmt.now) }
-    requires kept { HasKeeps (vars_of zone) (mark.old.keep + loops (stmt_of stmt.now)) keeps.old }
+    requires kept { HasKeeps (vars_of zone.old) (mark.old.keep + loops (stmt_of stmt.now)) keeps.old }
     requires called { AreCalled at.now.snapshot.now (map vars_of inputs.old) mark.old.call (callees (stmt_of stmt.now)) }
     requires calls { mark.old.call + length (callees (stmt_of stmt.now)) ≤ length inputs.old }
     requires results { length at.now.results.now ≡ length inputs.old }
     requires scale { AreScale at.now.thresholds.now }
-    ensures moves { Moves (given_of at.now) mark.old.keep mark.old.call (stmt_of stmt.now) zone (lists keeps.old inputs.old unproved.old mark.old.raised steps.old) result (lists keeps.new inputs.new unproved.new mark.new.raised steps.new) }
-    ensures vars { vars_of result ≡ vars_of zone }
-    ensures over { All (λ z. vars_of z ≡ vars_of zone) keeps.new }
+    ensures moves { Moves (given_of at.now) mark.old.keep mark.old.call (stmt_of stmt.now) zone.old (lists keeps.old inputs.old unproved.old mark.old.raised steps.old) zone.new (lists keeps.new inputs.new unproved.new mark.new.raised steps.new) }
+    ensures normal { IsNormal zone.new }
+    ensures vars { vars_of zone.new ≡ vars_of zone.old }
+    ensures over { All (λ z. vars_of z ≡ vars_of zone.old) keeps.new }
     ensures sizes { map vars_of inputs.new ≡ map vars_of inputs.old }
     ensures keep { mark.new.keep ≡ mark.old.keep + loops (stmt_of stmt.now) }
     ensures call { mark.new.call ≡ mark.old.call + length (callees (stmt_of stmt.now)) }
@@ -72,34 +77,61 @@ fn pass_stmt<L: Ledger>(
             test,
             first,
             second,
-        } => {
-            let (holds, fails) = branch(test, zone);
-            let one = pass_block(
-                at,
-                first.as_slice(),
-                keeps,
-                inputs,
-                unproved,
-                mark,
-                steps,
-                holds,
-            );
-            let other = pass_block(
-                at,
-                second.as_slice(),
-                keeps,
-                inputs,
-                unproved,
-                mark,
-                steps,
-                fails,
-            );
-            one.join(other)
-        }
+        } => pass_if(
+            at,
+            test,
+            first.as_slice(),
+            second.as_slice(),
+            keeps,
+            inputs,
+            unproved,
+            mark,
+            steps,
+            zone,
+        ),
         CodeStmt::Repeat(repeat) => {
             pass_repeat(at, repeat, keeps, inputs, unproved, mark, steps, zone)
         }
     }
+}
+
+/// Passes over an `if`. The state in which its second part is passed over is the one that this needs.
+#[cycle(pass)]
+#[inline(never)]
+fn pass_if<L: Ledger>(
+    at: &Place<'_>,
+    test: &CodeTest,
+    first: &[CodeStmt],
+    second: &[CodeStmt],
+    keeps: &mut [Zone],
+    inputs: &mut [Zone],
+    unproved: &mut [bool],
+    mark: &mut Mark,
+    steps: &mut Steps<L>,
+    zone: &mut Zone,
+)
+    requires normal { IsNormal zone.old }
+    requires few { vars_of zone.old ≤ 16 }
+    requires ready { IsReady at.now.snapshot.now (vars_of zone.old) (branch test.now (block_of first.now) (block_of second.now)) }
+    requires sites { HasSites (length unproved.old) (branch test.now (block_of first.now) (block_of second.now)) }
+    requires kept { HasKeeps (vars_of zone.old) (mark.old.keep + loops (branch test.now (block_of first.now) (block_of second.now))) keeps.old }
+    requires called { AreCalled at.now.snapshot.now (map vars_of inputs.old) mark.old.call (callees (branch test.now (block_of first.now) (block_of second.now))) }
+    requires calls { mark.old.call + length (callees (branch test.now (block_of first.now) (block_of second.now))) ≤ length inputs.old }
+    requires results { length at.now.results.now ≡ length inputs.old }
+    requires scale { AreScale at.now.thresholds.now }
+    ensures moves { Moves (given_of at.now) mark.old.keep mark.old.call (branch test.now (block_of first.now) (block_of second.now)) zone.old (lists keeps.old inputs.old unproved.old mark.old.raised steps.old) zone.new (lists keeps.new inputs.new unproved.new mark.new.raised steps.new) }
+    ensures normal { IsNormal zone.new }
+    ensures vars { vars_of zone.new ≡ vars_of zone.old }
+    ensures over { All (λ z. vars_of z ≡ vars_of zone.old) keeps.new }
+    ensures sizes { map vars_of inputs.new ≡ map vars_of inputs.old }
+    ensures keep { mark.new.keep ≡ mark.old.keep + loops (branch test.now (block_of first.now) (block_of second.now)) }
+    ensures call { mark.new.call ≡ mark.old.call + length (callees (branch test.now (block_of first.now) (block_of second.now))) }
+{
+    let mut other = *zone;
+    branch_in_place(test, zone, &mut other);
+    pass_block(at, first, keeps, inputs, unproved, mark, steps, zone);
+    pass_block(at, second, keeps, inputs, unproved, mark, steps, &mut other);
+    zone.join_with(&other);
 }
 
 /// Passes over a loop.
@@ -112,30 +144,34 @@ fn pass_repeat<L: Ledger>(
     unproved: &mut [bool],
     mark: &mut Mark,
     steps: &mut Steps<L>,
-    zone: Zone,
-) -> Zone
-    requires few { vars_of zone ≤ 16 }
-    requires ready { IsReady at.now.snapshot.now (vars_of zone) (loop_of repeat.now) }
+    zone: &mut Zone,
+)
+    requires normal { IsNormal zone.old }
+    requires few { vars_of zone.old ≤ 16 }
+    requires ready { IsReady at.now.snapshot.now (vars_of zone.old) (loop_of repeat.now) }
     requires sites { HasSites (length unproved.old) (loop_of repeat.now) }
-    requires kept { HasKeeps (vars_of zone) (mark.old.keep + loops (loop_of repeat.now)) keeps.old }
+    requires kept { HasKeeps (vars_of zone.old) (mark.old.keep + loops (loop_of repeat.now)) keeps.old }
     requires called { AreCalled at.now.snapshot.now (map vars_of inputs.old) mark.old.call (callees (loop_of repeat.now)) }
     requires calls { mark.old.call + length (callees (loop_of repeat.now)) ≤ length inputs.old }
     requires results { length at.now.results.now ≡ length inputs.old }
     requires scale { AreScale at.now.thresholds.now }
-    ensures moves { Moves (given_of at.now) mark.old.keep mark.old.call (loop_of repeat.now) zone (lists keeps.old inputs.old unproved.old mark.old.raised steps.old) result (lists keeps.new inputs.new unproved.new mark.new.raised steps.new) }
-    ensures vars { vars_of result ≡ vars_of zone }
-    ensures over { All (λ z. vars_of z ≡ vars_of zone) keeps.new }
+    ensures moves { Moves (given_of at.now) mark.old.keep mark.old.call (loop_of repeat.now) zone.old (lists keeps.old inputs.old unproved.old mark.old.raised steps.old) zone.new (lists keeps.new inputs.new unproved.new mark.new.raised steps.new) }
+    ensures normal { IsNormal zone.new }
+    ensures vars { vars_of zone.new ≡ vars_of zone.old }
+    ensures over { All (λ z. vars_of z ≡ vars_of zone.old) keeps.new }
     ensures sizes { map vars_of inputs.new ≡ map vars_of inputs.old }
     ensures keep { mark.new.keep ≡ mark.old.keep + loops (loop_of repeat.now) }
     ensures call { mark.new.call ≡ mark.old.call + length (callees (loop_of repeat.now)) }
 {
     let k = mark.keep;
     mark.keep += 1;
-    let first = head(repeat, zone);
-    unproved[repeat.site as usize - 1] = first.unproved;
-    let kept = raise_keep(at, k, &first.zone, keeps, &mut mark.raised, steps);
-    let start = turn(repeat, kept.norm());
-    let end = pass_block(
+    let flag = head_in_place(repeat, zone);
+    unproved[repeat.site as usize - 1] = flag;
+    raise_keep(at, k, zone, keeps, &mut mark.raised, steps);
+    zone.copy_from(&keeps[k]);
+    zone.normalize();
+    turn_in_place(repeat, zone);
+    pass_block(
         at,
         repeat.body.as_slice(),
         keeps,
@@ -143,11 +179,13 @@ fn pass_repeat<L: Ledger>(
         unproved,
         mark,
         steps,
-        start,
+        zone,
     );
-    let seen = again(repeat, end);
-    let last = raise_keep(at, k, &seen, keeps, &mut mark.raised, steps);
-    leave(repeat, last.norm())
+    again_in_place(repeat, zone);
+    raise_keep(at, k, zone, keeps, &mut mark.raised, steps);
+    zone.copy_from(&keeps[k]);
+    zone.normalize();
+    leave_in_place(repeat, zone);
 }
 
 /// Passes over statements in a row.
@@ -160,26 +198,26 @@ pub(crate) fn pass_block<L: Ledger>(
     unproved: &mut [bool],
     mark: &mut Mark,
     steps: &mut Steps<L>,
-    zone: Zone,
-) -> Zone
-    requires few { vars_of zone ≤ 16 }
-    requires ready { AreReady at.now.snapshot.now (vars_of zone) (block_of block.now) }
+    zone: &mut Zone,
+)
+    requires normal { IsNormal zone.old }
+    requires few { vars_of zone.old ≤ 16 }
+    requires ready { AreReady at.now.snapshot.now (vars_of zone.old) (block_of block.now) }
     requires sites { HaveSites (length unproved.old) (block_of block.now) }
-    requires kept { HasKeeps (vars_of zone) (mark.old.keep + block_loops (block_of block.now)) keeps.old }
+    requires kept { HasKeeps (vars_of zone.old) (mark.old.keep + block_loops (block_of block.now)) keeps.old }
     requires called { AreCalled at.now.snapshot.now (map vars_of inputs.old) mark.old.call (block_callees (block_of block.now)) }
     requires calls { mark.old.call + length (block_callees (block_of block.now)) ≤ length inputs.old }
     requires results { length at.now.results.now ≡ length inputs.old }
     requires scale { AreScale at.now.thresholds.now }
-    ensures moves { MovesAll (given_of at.now) mark.old.keep mark.old.call (block_of block.now) zone (lists keeps.old inputs.old unproved.old mark.old.raised steps.old) result (lists keeps.new inputs.new unproved.new mark.new.raised steps.new) }
-    ensures vars { vars_of result ≡ vars_of zone }
-    ensures over { All (λ z. vars_of z ≡ vars_of zone) keeps.new }
+    ensures moves { MovesAll (given_of at.now) mark.old.keep mark.old.call (block_of block.now) zone.old (lists keeps.old inputs.old unproved.old mark.old.raised steps.old) zone.new (lists keeps.new inputs.new unproved.new mark.new.raised steps.new) }
+    ensures normal { IsNormal zone.new }
+    ensures vars { vars_of zone.new ≡ vars_of zone.old }
+    ensures over { All (λ z. vars_of z ≡ vars_of zone.old) keeps.new }
     ensures sizes { map vars_of inputs.new ≡ map vars_of inputs.old }
     ensures keep { mark.new.keep ≡ mark.old.keep + block_loops (block_of block.now) }
     ensures call { mark.new.call ≡ mark.old.call + length (block_callees (block_of block.now)) }
 {
-    let mut now = zone;
     for stmt in block {
-        now = pass_stmt(at, stmt, keeps, inputs, unproved, mark, steps, now);
+        pass_stmt(at, stmt, keeps, inputs, unproved, mark, steps, zone);
     }
-    now
 }
