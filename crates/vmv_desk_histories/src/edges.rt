@@ -3,7 +3,7 @@
 use crate::fixture::{Fixture, opened};
 use crate::short::Source::Positive;
 use crate::short::{Move, Turn, Want, label, text};
-use crate::stores::FullStore;
+use crate::stores::{FullStore, Log};
 use std::test::Fail;
 use vmv_desk::{Act, Command, Label, Reply};
 use vmv_keeper::MemoryKeeper;
@@ -117,7 +117,7 @@ pub(crate) fn fill_projects(
     count: u16,
 ) -> Result<(), Fail> {
     for number in 2..=count {
-        open(desk, rt, number)?;
+        open(desk, rt, number.saturating_add(8000))?;
     }
     Ok(())
 }
@@ -193,8 +193,8 @@ fn thirty_two_submissions_wait_and_no_more(rt: HostRuntime) -> Result<(), Fail> 
     Ok(())
 }
 
-/// A desk over the same rows in a store that says that so many replies are kept for each caller and that the next
-/// submission has this number.
+/// A desk over the same rows in a store that notes its calls, and says that at least so many replies are kept for each
+/// caller and that the next submission has at least this number.
 pub(crate) fn full(
     desk: Fixture<MemoryKeeper>,
     rt: &HostRuntime,
@@ -208,6 +208,9 @@ pub(crate) fn full(
             keeper,
             replies,
             next,
+            log: Log {
+                bytes: Vec::new(rt.alloc()),
+            },
         },
     )
 }

@@ -105,9 +105,9 @@ const COMMANDS: [(Move, u8, Want); 10] = [
     (Move::Withdraw(1), 4, Want::Withdrawn(1)),
     (Move::Accept(1), 6, Want::Accepted(2)),
     (Move::Waive(1), 5, Want::Waived(2)),
-    (Move::ReportOf(1), 3, Want::Report),
+    (Move::ReportOf(1), 3, Want::Report(1, 1)),
     (Move::Base, 2, Want::Base(1)),
-    (Move::History, 1, Want::History(&[(1, 0)])),
+    (Move::History, 1, Want::History(&[(1, 0, 0)])),
     (Move::Pending, 2, Want::Pending(&[1])),
 ];
 

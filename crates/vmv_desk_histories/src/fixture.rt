@@ -1,6 +1,6 @@
 //! A desk with a judge of a few texts.
 
-use crate::short::Source::{AboveOne, Doomed, Idle, Positive};
+use crate::short::Source::{AboveOne, Any, Doomed, Idle, Positive};
 use crate::short::{Move, Turn, command, reply};
 use std::test::Fail;
 use vmv_desk::{Command, Desk, Inspected, Keeper, Reply};
@@ -8,14 +8,26 @@ use vmv_keeper::{MemoryJudge, MemoryKeeper};
 
 fn judge(rt: &HostRuntime) -> Result<MemoryJudge, Fail> {
     let mut judge = MemoryJudge::new(rt.alloc());
-    for (source, said, verdict) in [
-        (Positive, Inspected::Fine, 1),
-        (AboveOne, Inspected::Fine, 3),
-        (Idle, Inspected::Vacuous, 1),
-        (Doomed, Inspected::Vacuous, 3),
+    for (source, said) in [
+        (Positive, Inspected::Fine),
+        (Any, Inspected::Fine),
+        (AboveOne, Inspected::Fine),
+        (Idle, Inspected::Vacuous),
+        (Doomed, Inspected::Vacuous),
     ] {
         judge.inspects(rt.alloc(), source.bytes(), said)?;
-        judge.judges(rt.alloc(), Positive.bytes(), source.bytes(), verdict, "{}")?;
+    }
+    for (base, revision, verdict) in [
+        (Positive, Positive, 1),
+        (Positive, Any, 1),
+        (Positive, AboveOne, 3),
+        (Positive, Idle, 1),
+        (Positive, Doomed, 3),
+        (Any, Positive, 3),
+        (AboveOne, AboveOne, 1),
+        (AboveOne, Idle, 1),
+    ] {
+        judge.judges(rt.alloc(), base.bytes(), revision.bytes(), verdict, "{}")?;
     }
     Ok(judge)
 }

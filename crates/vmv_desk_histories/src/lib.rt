@@ -1,9 +1,9 @@
 //! Histories of commands, worked out by hand, against the desk: whole histories, each limit at its edge, causes that
-//! hold together, and stores that fail at each of their calls.
+//! hold together, the order of the calls of a store, and stores that fail at each of their calls.
 #![tactic(auto)]
 
 #[cfg(test)]
-mod desk;
+mod calls;
 #[cfg(test)]
 mod edges;
 #[cfg(test)]

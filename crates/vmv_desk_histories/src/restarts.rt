@@ -53,7 +53,12 @@ const LIST: [Turn; 8] = [
     ("eve", "s1", Move::Submit(Positive), Want::NotFound),
     ("ann", "a1", Move::Accept(1), Want::Accepted(2)),
     ("ann", "a1", Move::Accept(2), Want::IdReused),
-    ("ann", "", Move::History, Want::History(&[(1, 0), (2, 1)])),
+    (
+        "ann",
+        "",
+        Move::History,
+        Want::History(&[(1, 0, 0), (2, 1, 1)]),
+    ),
     ("ann", "a1", Move::Accept(1), Want::Accepted(2)),
     ("ann", "", Move::Pending, Want::Pending(&[])),
 ];

@@ -11,9 +11,11 @@ use vmv_edge::Text;
 pub(crate) enum Source {
     /// It keeps what it does.
     Positive,
-    /// It has verdict 3 against the first one.
+    /// It asks for nothing: it has verdict 1 against the first one, which has verdict 3 against it.
+    Any,
+    /// It has verdict 3 against the first one, and verdict 1 against itself.
     AboveOne,
-    /// It is vacuous, and has verdict 1 against the first one.
+    /// It is vacuous, and has verdict 1 against the others.
     Idle,
     /// It is vacuous, and has verdict 3 against the first one.
     Doomed,
@@ -26,6 +28,7 @@ impl Source {
         match self {
             Source::Positive =>
                 "outside read(0);\nentry e() { var q; q = read(); assert q >= 1; return q; }",
+            Source::Any => "outside read(0);\nentry e() { var q; q = read(); return q; }",
             Source::AboveOne =>
                 "outside read(0);\nentry e() { var q; q = read(); assert q >= 2; return q; }",
             Source::Idle => "entry e() { assert 0 >= 1; return 0; }",
@@ -50,8 +53,8 @@ pub(crate) enum Move {
     Pending,
 }
 
-/// A reply. A report is that of verdict 1, a base has the first text, a version is shown by its kind and submission,
-/// and all is by ann.
+/// A reply. A report is shown by its verdict and the version that it is against, a base has the first text, a version
+/// is shown by its kind, its submission and the version that it was judged against, and all is by ann.
 #[derive(Clone, Copy, Drop)]
 pub(crate) enum Want {
     Opened,
@@ -60,13 +63,15 @@ pub(crate) enum Want {
     Withdrawn(u32),
     Accepted(u32),
     Waived(u32),
-    Report,
+    Report(u8, u32),
     Base(u32),
-    History(&'static [(u8, u32)]),
+    History(&'static [(u8, u32, u32)]),
     Pending(&'static [u32]),
     NotFound,
     NotAllowed,
     Full(u8),
+    /// For a syntax fault at its first place.
+    TextRefused,
     NotCorrect(u8),
     IdReused,
     AlreadyOpen,
@@ -161,17 +166,18 @@ pub(crate) fn command(
     })
 }
 
-fn history(rt: &HostRuntime, kinds: &[(u8, u32)]) -> Result<Reply, Fail> {
+fn history(rt: &HostRuntime, kinds: &[(u8, u32, u32)]) -> Result<Reply, Fail> {
     let by = label("ann")?;
     let mut versions = VersionRows::new(rt.alloc());
     let mut number = 0u32;
-    for (kind, submission) in kinds {
+    for (kind, submission, against) in kinds {
         number = number.saturating_add(1);
         versions.push(VersionRow {
             number,
             kind: *kind,
             submission: *submission,
             by,
+            against: *against,
         })?;
     }
     Ok(Reply::History { versions })
@@ -192,9 +198,10 @@ fn pending(rt: &HostRuntime, numbers: &[u32]) -> Result<Reply, Fail> {
 // The reply to a question.
 fn told(rt: &HostRuntime, want: Want) -> Result<Reply, Fail> {
     match want {
-        Want::Report => Ok(Reply::Report {
-            verdict: 1,
+        Want::Report(verdict, against) => Ok(Reply::Report {
+            verdict,
             json: Text::from_slice(rt.alloc(), b"{}")?,
+            against,
         }),
         Want::Base(version) => Ok(Reply::Base {
             version,
@@ -217,6 +224,11 @@ pub(crate) fn reply(rt: &HostRuntime, want: Want) -> Result<Reply, Fail> {
         Want::Waived(version) => Reply::Waived { version },
         Want::NotAllowed => Reply::NotAllowed,
         Want::Full(which) => Reply::Full { which },
+        Want::TextRefused => Reply::TextRefused {
+            number: 3,
+            line: 1,
+            column: 1,
+        },
         Want::NotCorrect(verdict) => Reply::NotCorrect { verdict },
         Want::IdReused => Reply::IdReused,
         Want::AlreadyOpen => Reply::AlreadyOpen,
