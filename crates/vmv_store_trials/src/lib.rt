@@ -1,9 +1,5 @@
-//! Tests of what lies outside, of stores of rows, and of linked lists.
+//! Tests of stores of rows.
 #![tactic(auto)]
 
 #[cfg(test)]
-mod edge;
-#[cfg(test)]
 mod keeper;
-#[cfg(test)]
-mod links;
