@@ -37,7 +37,7 @@ pub(crate) fn input_of(search: &Search<'_>, instances: &[Instance], number: usiz
 {
     let instance = &instances[number];
     let caller = instance.caller;
-    instances[caller].input(instance.place)
+    *instances[caller].input(instance.place)
 }
 
 /// The result that is stored for an instance, with its caller.
@@ -98,7 +98,7 @@ fn visit<L: Ledger>(
     let instance = &instances[number];
     let caller = instance.caller;
     let place = instance.place;
-    let input = instances[caller].input(place);
+    let input = *instances[caller].input(place);
     let passed = pass(search, &mut instances[number], &input, steps);
     instances[caller].set_result(place, passed.range);
     passed.raised
