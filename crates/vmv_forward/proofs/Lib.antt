@@ -37,3 +37,4 @@ mod Scaling
 mod Opening
 mod Reached
 mod Beside
+mod Marking

@@ -29,8 +29,8 @@ returns-then-is_listed t c =
     let at = read c.args.instances.now c.args.number path c.requires.to c.index-instances-number.is in
     let items = c.deref-callee-items.ensures.value ∙ ap (λ (p : Path). p.callees) c.instance.view_is in
     let n = next_of (quest_of c.args.search.now) c.args.instances.now c.args.number path c.deref-callee-items.result.now c.loop-c.c c.requires.kept c.requires.from at items c.loop-c-test.true in (
-      λ x. listed_on c.args.instances.now c.args.number path c.loop-c.c (get_or c.deref-callee-items.result.now c.loop-c.c 0) c.input.result c.args.site.proc.0 c.args.site.index at n.is c.input.ensures
-          (untrue c.is_bottom.result c.input.result.bottom c.if-not-is_bottom.true c.is_bottom.ensures.1) (c.is_listed.ensures.0 c.if-is_listed.true),
+      λ x. listed_on c.args.instances.now c.args.number path c.loop-c.c (get_or c.deref-callee-items.result.now c.loop-c.c 0) c.input.result.now c.args.site.proc.0 c.args.site.index at n.is c.input.ensures
+          (untrue c.is_bottom.result c.input.result.now.bottom c.if-not-is_bottom.true c.is_bottom.ensures.1) (c.is_listed.ensures.0 c.if-is_listed.true),
       λ x. refl,
     )
 
@@ -45,7 +45,7 @@ loop-c-preserved t c =
       | else-not-is_bottom-via-then-not-is_bottom+else-is_listed w ↦
           here_unlisted c.args.instances.now path c.args.site.proc.0 c.args.site.index c.loop-c.c (get_or c.deref-callee-items.result.now c.loop-c.c 0) n.is (untold w.is_listed.result w.if-is_listed.false w.is_listed.ensures.1)
       | else-not-is_bottom-via-else-not-is_bottom w ↦
-          here_bottom c.args.instances.now path c.args.site.proc.0 c.args.site.index c.loop-c.c c.input.result c.input.ensures (c.is_bottom.ensures.0 w.if-not-is_bottom.false)
+          here_bottom c.args.instances.now path c.args.site.proc.0 c.args.site.index c.loop-c.c c.input.result.now c.input.ensures (c.is_bottom.ensures.0 w.if-not-is_bottom.false)
     ])
 
 pub returns : goal.returns
