@@ -38,3 +38,4 @@ mod Opening
 mod Reached
 mod Beside
 mod Marking
+mod Flagging
