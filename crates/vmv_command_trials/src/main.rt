@@ -7,7 +7,7 @@ mod trials;
 
 use devices::Devices;
 use std::process::ExitCode;
-use trials::{Commands, Doer};
+use trials::{Commands, Runner};
 use vmv_cases::run_cases;
 use vmv_command::run;
 use vmv_edge::{FaultlessDoor, FaultlessVault};
@@ -33,6 +33,6 @@ fn main(rt: HostRuntime) -> ExitCode {
     let Ok(boxed) = Box::new(alloc, command) else {
         return ExitCode::from(8);
     };
-    let doer: Doer = boxed;
-    run_cases(&rt, alloc, &Commands { doer })
+    let runner: Runner = boxed;
+    run_cases(&rt, alloc, &Commands { runner })
 }

@@ -5,19 +5,19 @@ use std::str;
 use vmv_cases::{Case, Sheet, Trial};
 use vmv_edge::MemorySink;
 
-/// What does a command: of its words and the devices, the sink that it has written to, and its status.
-pub type Doer = Box<dyn Fn(Vec<String>, Devices) -> (MemorySink, u8) + Drop>;
+/// Runs a command: of its words and the devices, the sink that it has written to, and its status.
+pub type Runner = Box<dyn Fn(Vec<String>, Devices) -> (MemorySink, u8) + Drop>;
 
 /// Trials of commands.
 #[derive(Drop)]
 pub struct Commands {
-    /// What does them.
-    pub doer: Doer,
-    // it does any command
-    ghost callable: { Doer.IsAlwaysCallable doer },
+    /// Runs them.
+    pub runner: Runner,
+    // it runs any command
+    ghost callable: { Runner.IsAlwaysCallable runner },
 }
 
-/// The words of a command.
+/// The words of a command. One that isn't UTF-8 is empty.
 fn words_of(alloc: Global, line: &[u8]) -> Result<Vec<String>, AllocError> {
     let mut words = Vec::new(alloc);
     if line.is_empty() {
@@ -42,7 +42,7 @@ fn tell(sheet: &mut Sheet, printed: &[u8], status: u8) {
 }
 
 impl Commands {
-    /// Does a command over devices in memory, and writes what it has printed, and its status.
+    /// Runs a command over devices in memory, and writes what it has printed, and its status.
     fn tell_command(
         &self,
         alloc: Global,
@@ -52,7 +52,7 @@ impl Commands {
     ) -> Result<(), AllocError> {
         let words = words_of(alloc, ask.words)?;
         let devices = devices_of(alloc, case, ask, &words)?;
-        let (out, status) = (self.doer)(words, devices);
+        let (out, status) = (self.runner)(words, devices);
         tell(sheet, out.bytes(), status);
         Ok(())
     }
