@@ -72,16 +72,6 @@ zips_same {X = X} R P (x ∷ xs) (y ∷ ys) same p q a b =
 pub all_at : {X : Type 0} (P : X → Type 0) (xs : List X) (k : ℕ) (x : X) → All P xs → slice_get xs k ≡ Some x → P x
 all_at P xs k x all e = of_all P xs all x (got_in xs k x e)
 
--- a place of an element
-pub place_in : {X : Type 0} (xs : List X) (x : X) → Contains xs x → (k : ℕ) × (slice_get xs k ≡ Some x)
-place_in [] x (k, h, e) = absurd (omega (arith, h))
-place_in (y ∷ xs) x (zero, h, e) = (0, ap (λ z. Some z) e)
-place_in (y ∷ xs) x (suc k, h, e) = let r = place_in xs x (k, omega (arith, h), e) in (suc r.0, r.1)
-
-pub append_long : {X : Type 0} (xs ys : List X) → length (xs ++ ys) ≡ length xs + length ys
-append_long [] ys = omega arith
-append_long (x ∷ xs) ys = let s = append_long xs ys in omega arith
-
 -- an element of two lists in a row stands in the first or in the second
 pub either_part : {X : Type 0} (xs ys : List X) (i : ℕ) (x : X) → slice_get (xs ++ ys) i ≡ Some x → (slice_get xs i ≡ Some x) ⊎ ((d : ℕ) × (i ≡ length xs + d) × (slice_get ys d ≡ Some x))
 either_part [] ys i x e = inr (i, omega arith, e)

@@ -75,11 +75,6 @@ same_proc program n item item' code code' a b = (some_same (sym a.place ∙ b.pl
 pub proc_of : (program : Resolution) (row : Row) (n : ℕ) (item : Item) (code : Code) → IsFormed program row n item code → IsProc program n item code
 proc_of program row n item code f = record { place = f.place; code_is = f.code_is }
 
--- a formed row's input is over the procedure's parameters
-pub params_at : (program : Resolution) (row : Row) (n : ℕ) (item : Item) (code : Code) → IsFormed program row n item code → HasParams program n (vars_of row.input)
-params_at program row n item code f =
-    slice_get-map (λ (x : Item). length (params_of x)) (procs_of program) n ∙ (ap (option_map (λ (x : Item). length (params_of x))) f.place ∙ ap (λ k. Some k) (sym f.input))
-
 only_one : {X : Type 0} (x y : X) (n : ℕ) → slice_get (x ∷ []) n ≡ Some y → (n ≡ 0) × (x ≡ y)
 only_one x y zero e = (refl, some_same e)
 only_one x y (suc n) e = absurd (cc)

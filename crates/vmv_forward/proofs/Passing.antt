@@ -88,9 +88,6 @@ caller_at q xs j v d r = r.there ∙ ap (λ (x : Path). Some x) (element xs v.ca
 pub input_bound : (q : Quest) (xs : List Path) (j : ℕ) (v d : Path) → Reads q xs j v → v.place < length (get_or xs v.caller d).inputs
 input_bound q xs j v d r = subst (λ (x : Path). v.place < length x.inputs) (element xs v.caller r.caller d r.there) r.input
 
-pub result_bound : (q : Quest) (xs : List Path) (j : ℕ) (v d : Path) → Reads q xs j v → v.place < length (get_or xs v.caller d).results
-result_bound q xs j v d r = subst (λ (x : Path). v.place < length x.results) (element xs v.caller r.caller d r.there) r.result
-
 still_there : (q : Quest) (xs : List Path) (j : ℕ) (v new : Path) (r : Reads q xs j v) → slice_get (slice_set xs j new) v.caller ≡ Some r.caller
 still_there q xs j v new r = get_other xs j v.caller new (λ e. (let b = r.before in omega arith)) ∙ r.there
 

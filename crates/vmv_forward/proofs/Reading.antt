@@ -127,14 +127,3 @@ seen q xs j raised s ys s' kept one v =
 -- the same of the instance as it is seen
 pub reads_view : (q : Quest) (xs : List Path) (j : ℕ) (path : Path) → AreKept q xs → 1 ≤ j → j < length xs → path ≡ get_or xs j path → (v : Path) → v ≡ get_or xs j path → Reads q xs j v
 reads_view q xs j path kept one h is v same = subst (Reads q xs j) (is ∙ sym same) (reads q xs j path kept one h is)
-
--- what is read with the caller is what is stored for the instance
-pub input_found : (q : Quest) (xs : List Path) (j : ℕ) (v path caller : Path) (input : Zone) → Reads q xs j v → slice_get xs j ≡ Some path → caller ≡ get_or xs v.caller caller → slice_get caller.inputs v.place ≡ Some input → HasInput xs path input
-input_found q xs j v path caller input r at is has =
-    let same : v ≡ path = some_same (sym r.at ∙ at) in
-    subst (λ (x : Path). HasInput xs x input) same (caller, at_place xs v.caller caller r.inside is, has)
-
-pub result_found : (q : Quest) (xs : List Path) (j : ℕ) (v path caller : Path) (result : Cond) → Reads q xs j v → slice_get xs j ≡ Some path → caller ≡ get_or xs v.caller caller → slice_get caller.results v.place ≡ Some result → HasResult xs path result
-result_found q xs j v path caller result r at is has =
-    let same : v ≡ path = some_same (sym r.at ∙ at) in
-    subst (λ (x : Path). HasResult xs x result) same (caller, at_place xs v.caller caller r.inside is, has)

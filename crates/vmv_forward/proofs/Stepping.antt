@@ -73,39 +73,6 @@ pub listed_on : (xs : List Path) (j : ℕ) (path : Path) (c next : ℕ) (input :
     IsListed xs j proc index
 listed_on xs j path c next input proc index at to there up l = (c ∷ l.0, l.1, (path, next, input, at, to, there, up, l.2), l.3)
 
--- what is listed at none of the first c instances that are called
-abbrev pub NoneListed : List Path → Path → ℕ → ℕ → ℕ → Type 0
-NoneListed xs path proc index c = (d next : ℕ) (input : Zone) → d < c → slice_get path.callees d ≡ Some next → slice_get path.inputs d ≡ Some input → NotBottom input → IsListed xs next proc index → ⊥
-
-pub none_first : (xs : List Path) (path : Path) (proc index : ℕ) → NoneListed xs path proc index 0
-none_first xs path proc index d next input h to there up l = absurd (omega arith)
-
-pub none_more : (xs : List Path) (path : Path) (proc index c : ℕ) → NoneListed xs path proc index c → ((next : ℕ) (input : Zone) → slice_get path.callees c ≡ Some next → slice_get path.inputs c ≡ Some input → NotBottom input → IsListed xs next proc index → ⊥) →
-    NoneListed xs path proc index (c + 1)
-none_more xs path proc index c none here d next input h to there up l =
-    ⊎_elim (λ (e : d < c). none d next input e to there up l)
-    (λ (e : c ≤ d). (let same : d ≡ c = omega arith in here next input (subst (λ k. slice_get path.callees k ≡ Some next) same to) (subst (λ k. slice_get path.inputs k ≡ Some input) same there) up l)) (cases_lt d c)
-
--- the c-th isn't reached
-pub here_bottom : (xs : List Path) (path : Path) (proc index c : ℕ) (z : Zone) → slice_get path.inputs c ≡ Some z → IsBottom z → (next : ℕ) (input : Zone) → slice_get path.callees c ≡ Some next → slice_get path.inputs c ≡ Some input → NotBottom input →
-    IsListed xs next proc index → ⊥
-here_bottom xs path proc index c z at none next input to there up l = let same : input ≡ z = some_same (sym there ∙ at) in clash input.bottom (subst IsBottom (sym same) none) up
-
--- it isn't listed at the c-th
-pub here_unlisted : (xs : List Path) (path : Path) (proc index c n : ℕ) → slice_get path.callees c ≡ Some n → (IsListed xs n proc index → ⊥) → (next : ℕ) (input : Zone) → slice_get path.callees c ≡ Some next → slice_get path.inputs c ≡ Some input →
-    NotBottom input → IsListed xs next proc index → ⊥
-here_unlisted xs path proc index c n at none next input to there up l = none (subst (λ k. IsListed xs k proc index) (some_same (sym to ∙ at)) l)
-
-pub not_listed : (xs : List Path) (j : ℕ) (path : Path) (proc index : ℕ) → slice_get xs j ≡ Some path → ((path.proc.0 ≡ proc) × (1 ≤ index) × (slice_get path.unproved (index - 1) ≡ Some true) → ⊥) → NoneListed xs path proc index (length path.callees) →
-    IsListed xs j proc index → ⊥
-not_listed xs j path proc index at own none ([], k, same, (other, there, proc_is, from, flag)) =
-    let e : other ≡ path = some_same (sym there ∙ (ap (slice_get xs) (sym same) ∙ at)) in
-    own (subst (λ (p : Path). p.proc.0 ≡ proc) e proc_is, from, subst (λ (p : Path). slice_get p.unproved (index - 1) ≡ Some true) e flag)
-not_listed xs j path proc index at own none (place ∷ places, k, (other, next, input, there, to, has, up, leads), f) =
-    let e : other ≡ path = some_same (sym there ∙ at) in
-    let to' = subst (λ (p : Path). slice_get p.callees place ≡ Some next) e to in
-    none place next input (within path.callees place next to') to' (subst (λ (p : Path). slice_get p.inputs place ≡ Some input) e has) up (places, k, leads, f)
-
 pub no_true : {P : Type 0} → IsTrue false → P
 no_true t = absurd (cc)
 
@@ -120,19 +87,6 @@ untrue a false off tells = refl
 -- what is left of a list is less behind a later element
 pub down_below : (long j next t : ℕ) → j < next → next < long → long - j ≡ t → long - next < t
 down_below long j next t later inside e = omega arith
-
-pub none_all : (xs : List Path) (path : Path) (proc index c : ℕ) (items : List ℕ) → items ≡ path.callees → length items ≤ c → NoneListed xs path proc index c → NoneListed xs path proc index (length path.callees)
-none_all xs path proc index c items same end none d next input h to there up l =
-    let long : length items ≡ length path.callees = ap length same in
-    let few : d < c = omega arith in
-    none d next input few to there up l
-
--- a state is reached where it isn't Bottom
-pub reached_told : {P : Type 0} (a b : Bool) → (IsTrue a → IsTrue b) × (IsTrue b → IsTrue a) → (IsFalse b → P) → (P → IsFalse b) → (IsTrue (not a) → P) × (P → IsTrue (not a))
-reached_told true true told f g = (λ t. absurd (cc), λ p. absurd (let x = g p in cc))
-reached_told true false told f g = (λ t. absurd (cc), λ p. absurd (let x = told.0 refl in cc))
-reached_told false true told f g = (λ t. absurd (let x = told.1 refl in cc), λ p. refl)
-reached_told false false told f g = (λ t. f refl, λ p. refl)
 
 -- the row that is made for an instance
 pub row_made : (program : Resolution) (xs : List Path) (j : ℕ) (path : Path) (name : Name) (input : Zone) (keeps : List Zone) (reach : Reach) (sites : List NamedSite) (range : Cond) → 1 ≤ j → slice_get xs j ≡ Some path →
