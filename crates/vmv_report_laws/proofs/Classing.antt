@@ -1,6 +1,6 @@
 -- Rows, their classes and their runs are determined by what is reviewed.
-use Rattle.std.proofs.Common.{◌≡◌, ◌⊎◌, inl, inr, ⊎_elim, ℕ, ◌<◌, ◌≤◌, Bool, true, false, Option, Some, None, List, [], ◌∷◌, ◌++◌, map, filter, refl, sym, ap, subst, ◌∙◌, arith, append_assoc}
-use Rattle.std.specs.List.{AllPairs, AllZip, Contains}
+use Rattle.std.proofs.Common.{◌≡◌, inl, inr, ⊎_elim, ◌≤◌, Option, Some, None, List, [], ◌∷◌, ◌++◌, map, filter, refl, sym, ap, subst, ◌∙◌, arith, append_assoc}
+use Rattle.std.specs.List.{AllZip, Contains}
 use Rattle.vmv_tree.specs.declared.name.Name.{Name}
 use Rattle.vmv_cond.specs.declared.cond.Cond.{Cond}
 use Rattle.vmv_snapshot.specs.declared.code.ProcId.{ProcId}
@@ -11,8 +11,8 @@ use Rattle.vmv_witness.specs.declared.witness.Witness.{Witness}
 use Rattle.vmv_report.specs.declared.class.Class.{Class}
 use Rattle.vmv_report.specs.declared.class.Class.TheVariants.{Clean, Hidden, Regression, Alarm}
 use Rattle.vmv_report.specs.declared.row.ReportRow.{ReportRow}
-use Rattle.vmv_report.specs.Rows.{Place, place_of, IsPlace, IsBefore, is_class, Review, regression_count, RegressesBy, StaysBy, IsNotFound, IsOfClass, AreRows, IsWitnessBy, AreWitnesses}
-use Rattle.vmv_report_laws.proofs.Lists.{Ordered, ordered_of, one_order}
+use Rattle.vmv_report.specs.Rows.{Place, place_of, IsBefore, is_class, Review, regression_count, RegressesBy, StaysBy, IsNotFound, IsOfClass, AreRows, IsWitnessBy, AreWitnesses}
+use Rattle.vmv_report_laws.proofs.Lists.{ordered_of, one_order}
 use Rattle.vmv_report_laws.proofs.Probing.{found_once, found_at_once}
 
 abbrev row_of : ProcId → SiteId → Class → ReportRow

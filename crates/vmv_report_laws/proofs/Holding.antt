@@ -1,5 +1,5 @@
 -- Conditions that are held for names of which none stands twice are told by what they mean.
-use Rattle.std.proofs.Common.{◌≡◌, inl, inr, ⊎_elim, ℕ, ◌+◌, Bool, true, false, List, [], ◌∷◌, map, refl, sym, ap, subst, ◌∙◌, if◌then◌else◌}
+use Rattle.std.proofs.Common.{◌≡◌, inl, inr, ⊎_elim, ℕ, ◌+◌, Bool, List, [], ◌∷◌, map, refl, sym, ap, subst, ◌∙◌, if◌then◌else◌}
 use Rattle.std.specs.List.{Contains}
 use Rattle.std.specs.Str.{bytes_eq}
 use Rattle.vmv_tree.specs.declared.name.Name.{Name}
@@ -7,7 +7,7 @@ use Rattle.vmv_tree.specs.declared.defect.Defect.TheVariants.{Repeated}
 use Rattle.vmv_tree.specs.Tree.{Item, outside, helper, entry}
 use Rattle.vmv_tree.specs.Run.{name_of}
 use Rattle.vmv_tree.specs.Mentions.{item_mentions}
-use Rattle.vmv_tree.specs.Valid.{Valid, InItem, InItems}
+use Rattle.vmv_tree.specs.Valid.{Valid, InItems}
 use Rattle.vmv_cond.specs.declared.cond.Cond.{Cond}
 use Rattle.vmv_snapshot.specs.Procs.{outsides}
 use Rattle.vmv_snapshot.proofs.Known.{Clean}

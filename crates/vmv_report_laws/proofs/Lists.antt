@@ -1,5 +1,5 @@
 -- Lists that are told by what they have.
-use Rattle.std.proofs.Common.{◌≡◌, ◌⊎◌, inl, inr, ⊎_elim, ℕ, zero, suc, ◌<◌, Bool, true, false, List, [], ◌∷◌, length, map, refl, sym, ap, subst, arith}
+use Rattle.std.proofs.Common.{◌≡◌, ◌⊎◌, inl, inr, ⊎_elim, ℕ, zero, suc, ◌<◌, Bool, true, false, List, [], ◌∷◌, map, refl, sym, ap, subst, arith}
 use Rattle.std.specs.List.{AllPairs, Contains}
 use Rattle.std.specs.Str.{bytes_eq}
 use Rattle.vmv_tree.specs.declared.name.Name.{Name}
@@ -41,13 +41,7 @@ module _ {X K : Type 0} (key : X → K) (R : K → K → Type 0) (apart : (a b :
   abbrev pub AreAmong : List X → List X → Type 0
   AreAmong xs ys = (x : X) → Contains xs x → (y : X) × Contains ys y × (key y ≡ key x)
 
-  before : X → X → Type 0
-  before a b = R (key a) (key b)
-
-  -- what a first one's key is in the other list: its first, or a later one
-  first_or_later : (x y : X) (ys : List X) → Contains (y ∷ ys) x → (y ≡ x) ⊎ Contains ys x
-  first_or_later x y ys there = first_or_further y ys x there
-
+  -- behind equal first keys the rest of the one list has its keys in the rest of the other
   rest_among : (x y : X) (xs ys : List X) → key x ≡ key y → ((z : X) → Contains xs z → R (key x) (key z)) → AreAmong (x ∷ xs) (y ∷ ys) → AreAmong xs ys
   rest_among x y xs ys same later among z there =
       let found = among z (further x xs z there) in

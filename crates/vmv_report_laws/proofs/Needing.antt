@@ -1,5 +1,5 @@
 -- What is necessary for a base is one thing, and so is what suffices.
-use Rattle.std.proofs.Common.{◌≡◌, ⊎_elim, ℕ, zero, suc, Option, Some, None, List, [], ◌∷◌, ◌++◌, refl, sym, ap, subst, ◌∙◌}
+use Rattle.std.proofs.Common.{◌≡◌, ℕ, Option, Some, None, List, [], ◌∷◌, ◌++◌, refl, sym, ap, subst, ◌∙◌}
 use Rattle.std.specs.List.{Contains}
 use Rattle.std.proofs.lemmas.List.Elements.{Contains-append_right}
 use Rattle.vmv_tree.specs.declared.name.Name.{Name}
@@ -8,12 +8,11 @@ use Rattle.vmv_cond.specs.declared.cond.Cond.{Cond}
 use Rattle.vmv_snapshot.specs.declared.code.ProcId.{ProcId}
 use Rattle.vmv_snapshot.specs.Procs.{outsides}
 use Rattle.vmv_snapshot.specs.Resolution.{Resolution, IsResolution, tree_of}
-use Rattle.vmv_assumption.specs.Assumed.{Assumed, names_of, cond_of}
+use Rattle.vmv_assumption.specs.Assumed.{Assumed, cond_of}
 use Rattle.vmv_cert.specs.declared.row.Row.{Row}
 use Rattle.vmv_cert.specs.Tables.{Box}
 use Rattle.vmv_forward.specs.Least.{IsLeastTable}
 use Rattle.vmv_need.specs.declared.subject.Scope.{Scope}
-use Rattle.vmv_need.specs.declared.cut.Cut.{Cut}
 use Rattle.vmv_need.specs.declared.shown.ShownBy.{ShownBy}
 use Rattle.vmv_need.specs.declared.shown.ShownBy.TheVariants.{EmptyName, Doomed}
 use Rattle.vmv_need.specs.declared.needed.Needed.{Needed}
@@ -25,7 +24,7 @@ use Rattle.vmv_need.proofs.Lower.{necessary_once}
 use Rattle.vmv_need.proofs.Once.{cuts_once}
 use Rattle.vmv_enough.proofs.Lists.{first_in, further}
 use Rattle.vmv_report.specs.Baselines.{IsEnoughFor}
-use Rattle.vmv_report_laws.proofs.Holding.{AreApart, outsides_apart, one_held}
+use Rattle.vmv_report_laws.proofs.Holding.{outsides_apart, one_held}
 use Rattle.vmv_report_laws.proofs.Tightening.{enough_once, enough_or_none}
 
 -- a list has one first thing with a property

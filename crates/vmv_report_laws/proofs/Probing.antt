@@ -1,8 +1,7 @@
 -- Probes find one list of runs.
-use Rattle.std.proofs.Common.{◌≡◌, ◌≢◌, ⊎_elim, ℕ, ◌<◌, ℤ, Some, List, [], ◌∷◌, ◌++◌, length, map, reverse, slice_get, take, refl, sym, ap, subst, ◌∙◌, arith}
-use Rattle.std.specs.List.{AllZip, AllPairs, Contains}
+use Rattle.std.proofs.Common.{◌≡◌, ⊎_elim, ℕ, ◌<◌, ℤ, Some, List, [], ◌∷◌, ◌++◌, map, reverse, slice_get, take, refl, sym, ap, subst, ◌∙◌, arith}
+use Rattle.std.specs.List.{AllZip, Contains}
 use Rattle.vmv_tree.specs.declared.name.Name.{Name}
-use Rattle.vmv_tree.specs.declared.site.NamedSite.{NamedSite}
 use Rattle.vmv_tree.specs.declared.tree.Param.{Param}
 use Rattle.vmv_tree.specs.Tree.{Item, outside, helper, entry}
 use Rattle.vmv_tree.specs.Run.{Answers, Site, Outcome, Outcome.fail, Run}
@@ -21,13 +20,12 @@ use Rattle.vmv_run.proofs.RunFixed.{Alike, RunsAbove-fixed}
 use Rattle.vmv_witness.specs.declared.witness.Witness.{Witness}
 use Rattle.vmv_witness.specs.declared.witness.ParamValue.{ParamValue}
 use Rattle.vmv_witness.specs.Fit.{words_of}
-use Rattle.vmv_demands.specs.declared.demand.Demand.{Demand}
 use Rattle.vmv_demands.specs.Demands.{first_wanted}
 use Rattle.vmv_demands.proofs.Names.{same_demands}
 use Rattle.vmv_enough.specs.declared.probe.Probe.{Probe}
 use Rattle.vmv_enough.specs.Probes.{CanMiss, AreThose, AreProbes, tries}
 use Rattle.vmv_enough.specs.Failures.{FailsAt}
-use Rattle.vmv_enough.specs.Found.{FailsIn, IsFirstFailure, AreFailures, AreFound}
+use Rattle.vmv_enough.specs.Found.{IsFirstFailure, AreFailures, AreFound}
 use Rattle.vmv_enough.proofs.Lists.{none_in, first_in, further, first_or_further, same_there}
 use Rattle.vmv_enough.proofs.Answering.{one_answer, one_words}
 use Rattle.vmv_report_laws.proofs.Lists.{by_order, ordered_of, one_order, map_self}
@@ -64,10 +62,10 @@ same_answers [] [] e = refl
 same_answers [] (q ∷ b) e = absurd (cc)
 same_answers (p ∷ a) [] e = absurd (cc)
 same_answers (p ∷ a) (q ∷ b) e =
+    let tail : pairs a ≡ pairs b = cc in
     let first : (p.name, p.value) ≡ (q.name, q.value) = cc in
     let name : p.name ≡ q.name = ap (λ (x : Name × ℤ). x.0) first in
     let value : p.value ≡ q.value = ap (λ (x : Name × ℤ). x.1) first in
-    let tail : pairs a ≡ pairs b = cc in
     let rest = same_answers a b tail in
     λ i. record { name = name i; value = value i } ∷ rest i
 

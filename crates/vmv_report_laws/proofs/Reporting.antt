@@ -5,7 +5,6 @@ use Rattle.vmv_tree.specs.declared.ends.NameEnds.{NameEnds}
 use Rattle.vmv_cond.specs.declared.cond.Cond.{Cond}
 use Rattle.vmv_snapshot.specs.Resolution.{Resolution, IsResolution}
 use Rattle.vmv_assumption.specs.Assumed.{cond_of}
-use Rattle.vmv_witness.specs.declared.witness.Witness.{Witness}
 use Rattle.vmv_need.specs.declared.subject.Scope.{Scope}
 use Rattle.vmv_need.specs.declared.needed.Needed.{Needed}
 use Rattle.vmv_need.specs.declared.needed.Needed.TheVariants.{Conditions, Vacuous}

@@ -1,7 +1,6 @@
 -- Tightening goes one way.
-use Rattle.std.proofs.Common.{◌≡◌, ◌≢◌, ◌⊎◌, inl, inr, ⊎_elim, ℕ, zero, suc, ◌<◌, List, [], ◌∷◌, Some, slice_get, refl, sym, ap, subst, ◌∙◌}
+use Rattle.std.proofs.Common.{◌≡◌, ◌⊎◌, inl, inr, ⊎_elim, ℕ, zero, suc, ◌<◌, List, [], ◌∷◌, Some, slice_get, sym, ap, subst, ◌∙◌}
 use Rattle.std.specs.List.{Contains}
-use Rattle.vmv_tree.specs.declared.name.Name.{Name}
 use Rattle.vmv_tree.specs.declared.ends.NameEnds.{NameEnds}
 use Rattle.vmv_cond.specs.declared.cond.Cond.{Cond}
 use Rattle.vmv_cond.specs.Cond.{IsEmpty}
