@@ -61,7 +61,7 @@ same_parts v v' b b' bs bs' ms ms' k k' e f g h =
     (λ c cs ns l f g h. subst Q f (λ cs ns l g h. subst R g (λ ns l h. subst S h (λ l. ap (zone_of v b bs ms) (are_kept_once v b bs ms k l)) l) ns l h) cs ns l g h)
     b' bs' ms' k' f g h
 
-same_fields : (a b : Zone) → a.vars ≡ b.vars → a.bottom ≡ b.bottom → a.bounds ≡ b.bounds → a.marks ≡ b.marks → a ≡ b
+pub same_fields : (a b : Zone) → a.vars ≡ b.vars → a.bottom ≡ b.bottom → a.bounds ≡ b.bounds → a.marks ≡ b.marks → a ≡ b
 same_fields a b e f g h = same_parts a.vars b.vars a.bottom b.bottom a.bounds b.bounds a.marks b.marks (kept_of a) (kept_of b) e f g h
 
 -- two facts that give one another are told by one Bool

@@ -29,3 +29,4 @@ pub mod MoreLaws
 pub mod Ascending
 pub mod Equal
 pub mod WordOrder
+pub mod Copying

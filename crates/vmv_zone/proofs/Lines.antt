@@ -236,7 +236,7 @@ blanked_more old new place h blanked =
     }
 
 -- a place past those of the things has no bound
-outside_at : (bs : List ℤ) (vars k : ℕ) → length bs ≡ 324 → AreZeroOutside vars bs → 18 * (vars + 1) ≤ k → get_or bs k (pos 0) ≡ pos 0
+pub outside_at : (bs : List ℤ) (vars k : ℕ) → length bs ≡ 324 → AreZeroOutside vars bs → 18 * (vars + 1) ≤ k → get_or bs k (pos 0) ≡ pos 0
 outside_at bs vars k full outside after = ⊎_elim
     (λ (inside : k < 324).
     let place : 18 * (k / 18) + k % 18 ≡ k = omega arith in

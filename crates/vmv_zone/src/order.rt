@@ -1,4 +1,4 @@
-ghost use Rattle.std.specs.Prelude.{◌≡◌, ◌<◌, ◌≤◌, ◌+◌, ◌*◌, ℤ, ℕ, ◌↔◌, IsTrue, ◌≤ℤ◌, pos, get_or, length};
+ghost use Rattle.std.specs.Prelude.{◌≡◌, ◌<◌, ◌≤◌, ◌+◌, ◌*◌, ℤ, ℕ, ◌↔◌, IsTrue, ◌≤ℤ◌, pos, get_or, length, false};
 ghost use Rattle.std.specs.Int.{int_max};
 ghost use Rattle.vmv_zone.specs.Bounds.{IsMarkedIn, bound_at};
 
@@ -54,7 +54,11 @@ impl Zone {
     pub fn copy_from(&mut self, other: &Zone)
         ensures { self.new ≡ other.now }
     {
-        *self = *other;
+        let vars = self.vars.max(other.vars);
+        copy_bounds(&mut self.bounds, &other.bounds, vars as usize);
+        copy_marks(&mut self.marks, &other.marks);
+        self.vars = other.vars;
+        self.bottom = other.bottom;
     }
 }
 
@@ -107,6 +111,28 @@ fn raise(bounds: &mut [i128; CELLS], other: &[i128; CELLS], vars: usize)
 {
     for place in 0..18 * (vars + 1) {
         bounds[place] = bounds[place].max(other[place]);
+    }
+}
+
+/// Makes each bound on the things the other.
+fn copy_bounds(bounds: &mut [i128; CELLS], others: &[i128; CELLS], vars: usize)
+    requires few { vars ≤ 17 }
+    ensures full { length bounds.new ≡ 324 }
+    ensures copied { (k : ℕ) → k < 18 * (vars + 1) → get_or bounds.new k (pos 0) ≡ get_or others.now k (pos 0) }
+    ensures rest { (k : ℕ) → 18 * (vars + 1) ≤ k → get_or bounds.new k (pos 0) ≡ get_or bounds.old k (pos 0) }
+{
+    for place in 0..18 * (vars + 1) {
+        bounds[place] = others[place];
+    }
+}
+
+/// Makes the marks the others.
+fn copy_marks(marks: &mut [bool; 18], others: &[bool; 18])
+    ensures full { length marks.new ≡ 18 }
+    ensures copied { (i : ℕ) → i < 18 → get_or marks.new i false ≡ get_or others.now i false }
+{
+    for i in 0..18 {
+        marks[i] = others[i];
     }
 }
 
