@@ -13,6 +13,8 @@ mod fixture;
 #[cfg(test)]
 mod histories;
 #[cfg(test)]
+mod migrating;
+#[cfg(test)]
 mod order;
 #[cfg(test)]
 mod restarts;

@@ -112,17 +112,18 @@ fn reply(short: Move, number: u32) -> Reply {
     }
 }
 
-/// A caller, an id of his, what he does, and the number of the reply.
-type Turn = (&'static [u8], &'static [u8], Move, u32);
+/// A caller, an id of his, what he does, the number of the reply, and that of the version it was judged against.
+type Turn = (&'static [u8], &'static [u8], Move, u32, u32);
 
 /// Makes a change if it fits.
 fn made(keeper: &mut MemoryKeeper, rt: &HostRuntime, turn: Turn) -> Result<bool, Fail> {
-    let (caller, id, short, number) = turn;
+    let (caller, id, short, number, against) = turn;
     let change = Change {
         caller: label(caller)?,
         id: label(id)?,
         act: act(rt, short)?,
         reply: reply(short, number),
+        against,
     };
     let fits = keeper.fits(&change);
     if fits {
@@ -163,8 +164,8 @@ fn after(
 fn shop(rt: &HostRuntime) -> Result<MemoryKeeper, Fail> {
     let keeper = MemoryKeeper::new(rt.alloc(), Vec::new(rt.alloc()));
     let turns: [(bool, Turn); 2] = [
-        (true, (b"ann", b"a1", Move::Open(b"shop", b"one"), 1)),
-        (true, (b"ann", b"a2", Move::Add(b"bob"), 2)),
+        (true, (b"ann", b"a1", Move::Open(b"shop", b"one"), 1, 0)),
+        (true, (b"ann", b"a2", Move::Add(b"bob"), 2, 0)),
     ];
     after(keeper, rt, &turns)
 }
@@ -173,12 +174,12 @@ fn shop(rt: &HostRuntime) -> Result<MemoryKeeper, Fail> {
 fn a_project_is_opened_once(rt: HostRuntime) -> Result<(), Fail> {
     let mut keeper = MemoryKeeper::new(rt.alloc(), Vec::new(rt.alloc()));
     let turns: [(bool, Turn); 6] = [
-        (false, (b"ann", b"1", Move::Open(b"shop", b"one"), 2)),
-        (false, (b"ann", b"1", Move::Open(b"shop", b"\xff"), 1)),
-        (true, (b"ann", b"1", Move::Open(b"shop", b"one"), 1)),
-        (false, (b"ann", b"1", Move::Open(b"other", b"one"), 1)),
-        (false, (b"ann", b"2", Move::Open(b"shop", b"one"), 1)),
-        (true, (b"ann", b"2", Move::Open(b"other", b"one"), 1)),
+        (false, (b"ann", b"1", Move::Open(b"shop", b"one"), 2, 0)),
+        (false, (b"ann", b"1", Move::Open(b"shop", b"\xff"), 1, 0)),
+        (true, (b"ann", b"1", Move::Open(b"shop", b"one"), 1, 0)),
+        (false, (b"ann", b"1", Move::Open(b"other", b"one"), 1, 0)),
+        (false, (b"ann", b"2", Move::Open(b"shop", b"one"), 1, 0)),
+        (true, (b"ann", b"2", Move::Open(b"other", b"one"), 1, 0)),
     ];
     assert_eq!(rt; as_told(&mut keeper, &rt, &turns)?, turns.len());
     assert_eq!(rt; keeper.replies(rt.alloc(), &label(b"ann")?)?, 2);
@@ -188,14 +189,15 @@ fn a_project_is_opened_once(rt: HostRuntime) -> Result<(), Fail> {
 #[test]
 fn members_act_and_others_do_not(rt: HostRuntime) -> Result<(), Fail> {
     let mut keeper = shop(&rt)?;
-    let turns: [(bool, Turn); 7] = [
-        (false, (b"bob", b"b1", Move::Add(b"eve"), 3)),
-        (false, (b"eve", b"e1", Move::Submit(b"x"), 1)),
-        (true, (b"bob", b"b1", Move::Submit(b"two"), 1)),
-        (false, (b"bob", b"b2", Move::Waive(1), 2)),
-        (false, (b"bob", b"b2", Move::Accept(2), 2)),
-        (true, (b"bob", b"b2", Move::Accept(1), 2)),
-        (false, (b"bob", b"b3", Move::Withdraw(1), 1)),
+    let turns: [(bool, Turn); 8] = [
+        (false, (b"bob", b"b1", Move::Add(b"eve"), 3, 0)),
+        (false, (b"eve", b"e1", Move::Submit(b"x"), 1, 0)),
+        (true, (b"bob", b"b1", Move::Submit(b"two"), 1, 0)),
+        (false, (b"bob", b"b2", Move::Waive(1), 2, 0)),
+        (false, (b"bob", b"b2", Move::Accept(2), 2, 1)),
+        (false, (b"bob", b"b2", Move::Accept(1), 2, 0)),
+        (true, (b"bob", b"b2", Move::Accept(1), 2, 1)),
+        (false, (b"bob", b"b3", Move::Withdraw(1), 1, 0)),
     ];
     assert_eq!(rt; as_told(&mut keeper, &rt, &turns)?, turns.len());
     Ok(())
@@ -204,12 +206,13 @@ fn members_act_and_others_do_not(rt: HostRuntime) -> Result<(), Fail> {
 /// The shop after ann has submitted three times, withdrawn the first and waived the second.
 fn waived(rt: &HostRuntime) -> Result<MemoryKeeper, Fail> {
     let keeper = shop(rt)?;
-    let turns: [(bool, Turn); 5] = [
-        (true, (b"ann", b"a3", Move::Submit(b"two"), 1)),
-        (true, (b"ann", b"a4", Move::Submit(b"three"), 2)),
-        (true, (b"ann", b"a5", Move::Submit(b"four"), 3)),
-        (true, (b"ann", b"a6", Move::Withdraw(1), 1)),
-        (true, (b"ann", b"a7", Move::Waive(2), 2)),
+    let turns: [(bool, Turn); 6] = [
+        (true, (b"ann", b"a3", Move::Submit(b"two"), 1, 0)),
+        (true, (b"ann", b"a4", Move::Submit(b"three"), 2, 0)),
+        (true, (b"ann", b"a5", Move::Submit(b"four"), 3, 0)),
+        (true, (b"ann", b"a6", Move::Withdraw(1), 1, 0)),
+        (false, (b"ann", b"a7", Move::Waive(2), 2, 1)),
+        (true, (b"ann", b"a7", Move::Waive(2), 2, 0)),
     ];
     after(keeper, rt, &turns)
 }
@@ -220,6 +223,7 @@ fn version(number: u32, kind: u8, submission: u32, by: Label) -> VersionRow {
         kind,
         submission,
         by,
+        against: 0,
     }
 }
 
@@ -305,6 +309,7 @@ fn a_faultless_keeper_keeps_a_change(rt: HostRuntime) -> Result<(), Fail> {
         id: label(b"1")?,
         act: act(&rt, Move::Open(b"shop", b"one"))?,
         reply: Reply::Opened { version: 1 },
+        against: 0,
     };
     assert!(rt; keeper.fits(&change));
     if keeper.fits(&change) {
@@ -329,10 +334,11 @@ fn copies_are_the_same(rt: HostRuntime) -> Result<(), Fail> {
         id: label(b"1")?,
         act: submit,
         reply,
+        against: 7,
     };
     let copy = change.copy(rt.alloc())?;
     assert!(rt; copy.caller == change.caller && copy.id == change.id);
-    assert!(rt; copy.act == change.act && copy.reply == change.reply);
+    assert!(rt; copy.act == change.act && copy.reply == change.reply && copy.against == 7);
     Ok(())
 }
 
