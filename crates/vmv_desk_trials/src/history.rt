@@ -48,7 +48,7 @@ fn start(alloc: Global, keeper: NotingKeeper, sheet: &mut Sheet) -> Option<Desk<
 }
 
 /// A number up to which a store counts.
-fn size(word: &[u8]) -> Option<u32> {
+pub fn size(word: &[u8]) -> Option<u32> {
     u32::try_from(number(word)?).ok()
 }
 

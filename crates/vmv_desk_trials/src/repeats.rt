@@ -26,7 +26,7 @@ pub fn put_turn(setting: &Setting, desk: &mut Desk<NotingKeeper>, line: &[u8], s
 }
 
 /// What stands before and behind the first `=` of a line.
-fn halves(line: &[u8]) -> (&[u8], &[u8]) {
+pub fn halves(line: &[u8]) -> (&[u8], &[u8]) {
     match line.iter().position(|byte| *byte == b'=') {
         Some(at) => (&line[..at], &line[at + 1..]),
         None => (line, b"".as_slice()),

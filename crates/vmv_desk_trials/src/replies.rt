@@ -51,7 +51,8 @@ fn put_base(version: u32, text: &[u8], sheet: &mut Sheet) {
     sheet.line(text);
 }
 
-fn put_fault_of_text(number: u8, line: u32, column: u32, sheet: &mut Sheet) {
+/// Writes why a text was refused, and where.
+pub fn put_fault_of_text(number: u8, line: u32, column: u32, sheet: &mut Sheet) {
     sheet.put(b"text refused for ");
     sheet.show(&number);
     sheet.put(b" at ");

@@ -1,17 +1,17 @@
 use crate::replies::{put_number, put_versions};
 use std::alloc::Global;
 use vmv_cases::Sheet;
-use vmv_keeper::{Bench, Held, KeepFault, Keeper, Label, MemoryKeeper};
+use vmv_keeper::{Bench, Held, KeepFault, Keeper, Label};
 
 /// Writes why a call of a store gave no answer.
-fn put_fault(fault: KeepFault, sheet: &mut Sheet) {
+pub fn put_fault(fault: KeepFault, sheet: &mut Sheet) {
     match fault {
         KeepFault::Failed => sheet.line(b"failed"),
         KeepFault::Memory => sheet.fall_short(),
     }
 }
 
-fn put_bench(bench: &Bench, sheet: &mut Sheet) {
+pub fn put_bench(bench: &Bench, sheet: &mut Sheet) {
     sheet.put(b"project ");
     sheet.put(bench.owner.bytes());
     sheet.put(b" ");
@@ -36,8 +36,8 @@ fn put_held(held: &Held, sheet: &mut Sheet) {
 }
 
 /// Writes the project of an owner and a name.
-fn put_project(
-    keeper: &mut MemoryKeeper,
+pub fn put_project<K: Keeper>(
+    keeper: &mut K,
     alloc: Global,
     owner: &Label,
     name: &Label,
@@ -50,14 +50,15 @@ fn put_project(
     }
 }
 
-fn put_projects(keeper: &mut MemoryKeeper, alloc: Global, benches: &[Bench], sheet: &mut Sheet) {
+fn put_projects<K: Keeper>(keeper: &mut K, alloc: Global, benches: &[Bench], sheet: &mut Sheet) {
     for bench in benches {
         put_bench(bench, sheet);
         put_project(keeper, alloc, &bench.owner, &bench.name, sheet);
     }
 }
 
-fn put_replies(keeper: &mut MemoryKeeper, alloc: Global, caller: &Label, sheet: &mut Sheet) {
+/// Writes how many replies are kept for a caller.
+pub fn put_replies<K: Keeper>(keeper: &mut K, alloc: Global, caller: &Label, sheet: &mut Sheet) {
     match keeper.replies(alloc, caller) {
         Ok(count) => put_number(b"replies kept", count, sheet),
         Err(fault) => put_fault(fault, sheet),
@@ -65,7 +66,7 @@ fn put_replies(keeper: &mut MemoryKeeper, alloc: Global, caller: &Label, sheet: 
 }
 
 /// Writes how many calls of a store have failed, how many replies it keeps for a caller, and its projects.
-pub fn put_rows(keeper: &mut MemoryKeeper, alloc: Global, caller: &Label, sheet: &mut Sheet) {
+pub fn put_rows<K: Keeper>(keeper: &mut K, alloc: Global, caller: &Label, sheet: &mut Sheet) {
     sheet.put(b"faults ");
     sheet.show(&keeper.faults());
     sheet.line(b"");
