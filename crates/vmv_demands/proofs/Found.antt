@@ -3,7 +3,7 @@ use Rattle.std.proofs.Common.{◌≡◌, ℕ, zero, suc, ◌+◌, ◌<◌, ◌�
 use Rattle.std.specs.List.{filter_map, AllZip}
 use Rattle.std.specs.Ordering.{int_eq}
 use Rattle.std.specs.Str.{bytes_eq}
-use Rattle.std.proofs.lemmas.List.{take_all}
+use Rattle.std.proofs.lemmas.List.{take_all, drop_all}
 use Rattle.std.proofs.lemmas.List.Elements.{filter_map-append}
 use Rattle.std.proofs.lemmas.Bool.Decides.{Decides-int_eq}
 use Rattle.std.proofs.lemmas.Slice.Eq.{bytes_eq-Decides}
@@ -54,19 +54,25 @@ asked_lead site (Asked f cond) = refl
 asked_lead site (At x want) = refl
 
 -- from one site behind statements to the next
-pub keep_next : (move : Lead → Lead) (behind : List SiteLead) (i : ℕ) (led : SiteLead) (kept more all : List Found) → i < length behind → led ≡ get_or behind i led →
+pub keep_next : (move : Lead → Lead) (behind : List SiteLead) (i : ℕ) (led : SiteLead) (lead : Lead) (kept more all : List Found) → i < length behind → led ≡ get_or behind i led →
     keep_all 32 same_found kept (filter_map asked (led_on move (drop i behind))) ≡ all →
-    more ≡ keep_all 32 same_found kept (filter_map asked (record { site = led.site; lead = move led.lead } ∷ [])) →
+    lead ≡ move led.lead → more ≡ keep_all 32 same_found kept (filter_map asked (record { site = led.site; lead = lead } ∷ [])) →
     keep_all 32 same_found more (filter_map asked (led_on move (drop (i + 1) behind))) ≡ all
-keep_next move behind i led kept more all h is inv e =
+keep_next move behind i led lead kept more all h is inv same e =
     let tail : drop i behind ≡ led ∷ drop (i + 1) behind = rw (add-one, drop-cons behind i led, ← is) refl in
     let here : List SiteLead = lead_of led.site (move led.lead) in
     let rest : List SiteLead = led_on move (drop (i + 1) behind) in
-    ap (λ (k : List Found). keep_all 32 same_found k (filter_map asked rest)) (e ∙ ap (keep_all 32 same_found kept) (sym (asked_lead led.site (move led.lead))))
+    ap (λ (k : List Found). keep_all 32 same_found k (filter_map asked rest)) (e ∙ ap (λ (l : Lead). keep_all 32 same_found kept (filter_map asked (record { site = led.site; lead = l } ∷ []))) same ∙ ap (keep_all 32 same_found kept) (sym (asked_lead led.site (move led.lead))))
     ∙ sym (keep_all-append 32 same_found kept (filter_map asked here) (filter_map asked rest))
     ∙ ap (keep_all 32 same_found kept) (sym (filter_map-append asked here rest))
     ∙ ap (λ (l : List SiteLead). keep_all 32 same_found kept (filter_map asked (led_on move l))) (sym tail)
     ∙ inv
+
+pub keep_end : (move : Lead → Lead) (behind : List SiteLead) (i : ℕ) (kept all : List Found) → length behind ≤ i → keep_all 32 same_found kept (filter_map asked (led_on move (drop i behind))) ≡ all → kept ≡ all
+keep_end move behind i kept all h inv = sym (ap (λ (l : List SiteLead). keep_all 32 same_found kept (filter_map asked (led_on move l))) (drop_all i behind h)) ∙ inv
+
+pub kept_as : (move : Lead → Lead) (behind leads : List SiteLead) (kept more : List Found) → behind ≡ leads → more ≡ keep_all 32 same_found kept (filter_map asked (led_on move behind)) → more ≡ keep_all 32 same_found kept (filter_map asked (led_on move leads))
+kept_as move behind leads kept more e h = h ∙ ap (λ (l : List SiteLead). keep_all 32 same_found kept (filter_map asked (led_on move l))) e
 
 -- from one statement of a procedure to the next
 pub next_wanted : (r : Results) (inside : Inside) (p : ProcId) (block before : List CodeStmt) (i : ℕ) (s : CodeStmt) (kept more : List Found) → i < length block → s ≡ get_or block i s → before ≡ take i block →

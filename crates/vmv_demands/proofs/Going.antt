@@ -61,21 +61,6 @@ results_before codes (suc n) callee want h = by (callee == n) refl (λ k. result
         ∙ rest (below callee n h e)
 
 -- over a statement that assigns x, by its form
-pub over_plain : (r : Results) (s : CodeStmt) (simple : Simple) (want : Want) → s ≡ Plain simple → over_simple simple want ≡ over_assigning r (stmt_of s) want
-over_plain r s simple want is = sym (ap (λ (t : Stmt). over_assigning r t want) (is_plain s simple is))
-
-pub over_help : (codes : List Code) (n : ℕ) (s : CodeStmt) (to : Slot) (callee : ProcId) (args given : List CodeOperand) (want : Want) (found out : Lead) → s ≡ Help to callee args → given ≡ args → callee.0 < n →
-    found ≡ over_code (results codes callee.0) (slice_get codes callee.0) want → out ≡ out_of_call given found → out ≡ over_assigning (results codes n) (stmt_of s) want
-over_help codes n s to callee args given want found out is same below e f =
-    f ∙ (λ i. out_of_call (same i) (e i)) ∙ ap (out_of_call args) (sym (results_before codes n callee.0 want below))
-    ∙ sym (ap (λ (t : Stmt). over_assigning (results codes n) t want) (is_help s to callee args is))
-
-pub over_help_behind : (codes : List Code) (n : ℕ) (s : CodeStmt) (to : Slot) (callee : ProcId) (args : List CodeOperand) (want : Want) → s ≡ Help to callee args → n ≤ callee.0 →
-    Nowhere ≡ over_assigning (results codes n) (stmt_of s) want
-over_help_behind codes n s to callee args want is behind =
-    ap (out_of_call args) (sym (results_behind codes n callee.0 want behind))
-    ∙ sym (ap (λ (t : Stmt). over_assigning (results codes n) t want) (is_help s to callee args is))
-
 pub over_if : (r : Results) (s : CodeStmt) (test : CodeTest) (first second : List CodeStmt) (want : Want) → s ≡ If test first second → Nowhere ≡ over_assigning r (stmt_of s) want
 over_if r s test first second want is = sym (ap (λ (t : Stmt). over_assigning r t want) (is_if s test first second is))
 
@@ -83,7 +68,7 @@ pub over_repeat : (r : Results) (s : CodeStmt) (repeat : CodeRepeat) (want : Wan
 over_repeat r s repeat want is = sym (ap (λ (t : Stmt). over_assigning r t want) (is_repeat s repeat is))
 
 -- over statements in a row, from the last one on
-over_all-none : (r : Results) (lead : Lead) → over_all r [] lead ≡ lead
+pub over_all-none : (r : Results) (lead : Lead) → over_all r [] lead ≡ lead
 unfolding over_all
 over_all-none r lead = refl
 
@@ -91,7 +76,7 @@ over_all-row : (r : Results) (s : Stmt) (rest : Block) (lead : Lead) → over_al
 unfolding over_all
 over_all-row r s rest lead = refl
 
-take_none : (block : List CodeStmt) → take 0 block ≡ []
+pub take_none : (block : List CodeStmt) → take 0 block ≡ []
 take_none [] = refl
 take_none (b ∷ block) = refl
 
@@ -106,22 +91,3 @@ over_last r (b ∷ block) (suc i) s lead h is =
     over_all-row r (stmt_of b) (block_of (take (suc i) block)) lead
     ∙ ap (over r (stmt_of b)) (over_last r block i s lead (omega (arith, h)) is)
     ∙ sym (over_all-row r (stmt_of b) (block_of (take i block)) (over r (stmt_of s) lead))
-
-pub over_next : (r : Results) (block : List CodeStmt) (i : ℕ) (s : CodeStmt) (lead next : Lead) (all : Lead) → 0 < i → i ≤ length block → s ≡ get_or block (i - 1) s → next ≡ over r (stmt_of s) lead →
-    over_all r (block_of (take i block)) lead ≡ all → over_all r (block_of (take (i - 1) block)) next ≡ all
-over_next r block i s lead next all some few is e inv =
-    let one : suc (i - 1) ≡ i = omega arith in
-    ap (over_all r (block_of (take (i - 1) block))) e
-    ∙ sym (over_last r block (i - 1) s lead (omega arith) is)
-    ∙ ap (λ (n : ℕ). over_all r (block_of (take n block)) lead) one ∙ inv
-
-pub over_end : (r : Results) (block : List CodeStmt) (i : ℕ) (lead all : Lead) → i ≤ 0 → over_all r (block_of (take i block)) lead ≡ all → lead ≡ all
-over_end r block i lead all none inv =
-    let zero_is : 0 ≡ i = omega arith in
-    sym (over_all-none r lead) ∙ ap (λ (b : List CodeStmt). over_all r (block_of b) lead) (sym (take_none block))
-    ∙ ap (λ (n : ℕ). over_all r (block_of (take n block)) lead) zero_is ∙ inv
-
-pub over_proc_is : (codes : List Code) (n : ℕ) (code : Code) (block : List CodeStmt) (want : Want) (end out : Lead) → slice_get codes n ≡ Some code → block ≡ code.block → end ≡ on_operand code.result (Some want) →
-    out ≡ over_all (results codes n) (block_of block) end → out ≡ over_code (results codes n) (slice_get codes n) want
-over_proc_is codes n code block want end out at same e f =
-    f ∙ (λ i. over_all (results codes n) (block_of (same i)) (e i)) ∙ ap (λ o. over_code (results codes n) o want) (sym at)

@@ -1,7 +1,8 @@
 -- The conditions of sites, led back step by step.
-use Rattle.std.proofs.Common.{◌≡◌, ◌≢◌, ℕ, zero, suc, ◌+◌, ◌<◌, ◌≤◌, ◌==◌, Bool, true, false, Some, List, [], ◌∷◌, ◌++◌, length, get_or, take, slice_get, refl, sym, ap, ◌∙◌, arith, add-one, append_assoc, append-nil, length-append, if◌then◌else◌}
+use Rattle.std.proofs.Common.{◌≡◌, ◌≢◌, ℕ, zero, suc, ◌+◌, ◌<◌, ◌≤◌, ◌==◌, Bool, true, false, Some, List, [], ◌∷◌, ◌++◌, length, get_or, take, drop, slice_get, refl, sym, ap, subst, ◌∙◌, arith, add-one, drop-cons, append_assoc, append-nil, length-append, if◌then◌else◌}
 use Rattle.std.proofs.lemmas.Bool.Decides.{nat_tests}
-use Rattle.std.proofs.lemmas.Option.{get_or_from_slice_get}
+use Rattle.std.proofs.lemmas.List.{drop_all}
+use Rattle.std.proofs.lemmas.Option.{slice_get-get_or}
 use Rattle.vmv_snapshot.specs.declared.code.Slot.{Slot}
 use Rattle.vmv_snapshot.specs.declared.code.ProcId.{ProcId}
 use Rattle.vmv_snapshot.specs.declared.code.SiteId.{SiteId}
@@ -18,8 +19,11 @@ use Rattle.vmv_demands.specs.declared.lead.Lead.{Lead}
 use Rattle.vmv_demands.specs.declared.lead.Lead.TheVariants.{Nowhere, Asked, At}
 use Rattle.vmv_demands.specs.declared.lead.SiteLead.{SiteLead}
 use Rattle.vmv_demands.specs.Needs.{test_needs, arith_needs, bound_needs}
-use Rattle.vmv_demands.specs.Back.{out_of_call, out_of_loop, Results, over, over_all, results}
-use Rattle.vmv_demands.specs.Leads.{lead_of, led_on, simple_leads, Inside, leads_in, leads_in_all, leads_in_code, insides, proc_leads, AreInsides}
+use Rattle.vmv_demands.specs.Back.{on_operand, out_of_call, out_of_loop, Results, over, over_all, over_code, results}
+use Rattle.vmv_demands.specs.Leads.{lead_of, led_on, simple_leads, Inside, leads_in, leads_in_all, leads_in_code, insides, proc_leads}
+use Rattle.vmv_demands.specs.declared.source.Source.{Source}
+use Rattle.vmv_demands.specs.declared.summary.Summary.{Summary}
+use Rattle.vmv_demands.specs.Sources.{LeadsAs, StandFor, IsSummary, AreSummaries}
 use Rattle.vmv_demands.proofs.Sizes.{is_plain, is_help, is_if, is_repeat, loop_of}
 
 pick_true : {A : Type 0} (b : Bool) (x y : A) → b ≡ true → (if b then x else y) ≡ x
@@ -220,42 +224,64 @@ proc_leads_are codes p code block leads at same e =
     e ∙ ap (λ (b : List CodeStmt). leads_in_all (results codes p.0) (insides codes p.0) p (block_of b)) same
     ∙ ap (leads_in_code (results codes p.0) (insides codes p.0) p.0) (sym at)
 
--- the row of a procedure before the n-th
-pub row_is : (codes : List Code) (n k : ℕ) (rows : List (List SiteLead)) (row : List SiteLead) → AreInsides codes n rows → k < n → row ≡ get_or rows k row → row ≡ proc_leads codes k
-row_is codes n k rows row are below is = is ∙ get_or_from_slice_get rows k (proc_leads codes k) row (are.right k below)
+-- from one site behind statements to the next
+pub led_next : (move : Lead → Lead) (behind : List SiteLead) (i : ℕ) (led : SiteLead) (lead : Lead) (leads more all : List SiteLead) → i < length behind → led ≡ get_or behind i led → leads ++ led_on move (drop i behind) ≡ all →
+    lead ≡ move led.lead → more ≡ leads ++ lead_of led.site lead → more ++ led_on move (drop (i + 1) behind) ≡ all
+led_next move behind i led lead leads more all h is inv same e =
+    let tail : drop i behind ≡ led ∷ drop (i + 1) behind = rw (add-one, drop-cons behind i led, ← is) refl in
+    let rest : List SiteLead = led_on move (drop (i + 1) behind) in
+    ap (λ (l : List SiteLead). l ++ rest) (e ∙ ap (λ (l : Lead). leads ++ lead_of led.site l) same)
+    ∙ append_assoc leads (lead_of led.site (move led.lead)) rest
+    ∙ ap (λ (l : List SiteLead). leads ++ led_on move l) (sym tail) ∙ inv
 
-at_front : (rows : List (List SiteLead)) (row : List SiteLead) (k : ℕ) → k < length rows → slice_get (rows ++ row ∷ []) k ≡ slice_get rows k
+pub led_end : (move : Lead → Lead) (behind : List SiteLead) (i : ℕ) (leads all : List SiteLead) → length behind ≤ i → leads ++ led_on move (drop i behind) ≡ all → leads ≡ all
+led_end move behind i leads all h inv = sym (append-nil leads) ∙ ap (λ (l : List SiteLead). leads ++ led_on move l) (sym (drop_all i behind h)) ∙ inv
+
+-- the row of a procedure before the n-th
+pub row_leads : (codes : List Code) (n k : ℕ) (rows : List Summary) (d : Summary) → AreSummaries codes n rows → k < n → (get_or rows k d).leads ≡ proc_leads codes k
+row_leads codes n k rows d are below = (are.right k (get_or rows k d) below (slice_get-get_or rows k d (omega (arith, are.count)))).leads
+
+at_front : (rows : List Summary) (row : Summary) (k : ℕ) → k < length rows → slice_get (rows ++ row ∷ []) k ≡ slice_get rows k
 at_front [] row k h = absurd (omega arith)
 at_front (r ∷ rows) row zero h = refl
 at_front (r ∷ rows) row (suc k) h = at_front rows row k (omega (arith, h))
 
-at_end : (rows : List (List SiteLead)) (row : List SiteLead) → slice_get (rows ++ row ∷ []) (length rows) ≡ Some row
+at_end : (rows : List Summary) (row : Summary) → slice_get (rows ++ row ∷ []) (length rows) ≡ Some row
 at_end [] row = refl
 at_end (r ∷ rows) row = at_end rows row
 
 -- with the row of the n-th
-pub one_row_more : (codes : List Code) (n : ℕ) (rows more : List (List SiteLead)) (row : List SiteLead) → length rows ≡ n → AreInsides codes n rows → row ≡ proc_leads codes n → more ≡ rows ++ row ∷ [] →
-    (length more ≡ n + 1) × AreInsides codes (n + 1) more
+pub one_row_more : (codes : List Code) (n : ℕ) (rows more : List Summary) (row : Summary) → length rows ≡ n → AreSummaries codes n rows → IsSummary codes n row → more ≡ rows ++ row ∷ [] →
+    (length more ≡ n + 1) × AreSummaries codes (n + 1) more
 one_row_more codes n rows more row long are is e =
     let longer : length more ≡ n + 1 = ap length e ∙ length-append rows (row ∷ []) ∙ ap (λ (m : ℕ). m + 1) long in
-    (longer, record { count = omega arith; right = at })
+    (longer, record { count = omega arith; right = λ k found h g. by k found (k == n) h refl g })
   where
-    by : (k : ℕ) (b : Bool) → k < n + 1 → (k == n) ≡ b → slice_get more k ≡ Some (proc_leads codes k)
-    by k true h f =
-        let same : k ≡ length rows = number k n f ∙ sym long in
-        ap (λ (xs : List (List SiteLead)). slice_get xs k) e ∙ ap (slice_get (rows ++ row ∷ [])) same ∙ at_end rows row ∙ (λ i. Some ((is ∙ ap (proc_leads codes) (sym (number k n f))) i))
-      where
-        number : (a b : ℕ) → (a == b) ≡ true → a ≡ b
-        number a b f = grind (arith, nat_tests)
-    by k false h f =
+    number : (a b : ℕ) → (a == b) ≡ true → a ≡ b
+    number a b f = grind (arith, nat_tests)
+
+    less : (a b : ℕ) → a < b + 1 → (a == b) ≡ false → a < b
+    less a b h f = grind (arith, nat_tests)
+
+    by : (k : ℕ) (found : Summary) (b : Bool) → k < n + 1 → (k == n) ≡ b → slice_get more k ≡ Some found → IsSummary codes k found
+    by k found true h f g =
+        let last : slice_get more k ≡ Some row = ap (λ (xs : List Summary). slice_get xs k) e ∙ ap (slice_get (rows ++ row ∷ [])) (number k n f ∙ sym long) ∙ at_end rows row in
+        let same : row ≡ found = cc in
+        subst (λ (m : ℕ). IsSummary codes m found) (sym (number k n f)) (subst (IsSummary codes n) same is)
+    by k found false h f g =
         let below : k < n = less k n h f in
-        ap (λ (xs : List (List SiteLead)). slice_get xs k) e ∙ at_front rows row k (omega (arith, below, long)) ∙ are.right k below
-      where
-        less : (a b : ℕ) → a < b + 1 → (a == b) ≡ false → a < b
-        less a b h f = grind (arith, nat_tests)
+        are.right k found below (sym (ap (λ (xs : List Summary). slice_get xs k) e ∙ at_front rows row k (omega (arith, below, long))) ∙ g)
 
-    at : (k : ℕ) → k < n + 1 → slice_get more k ≡ Some (proc_leads codes k)
-    at k h = by k (k == n) h refl
+pub no_rows : (codes : List Code) (rows : List Summary) → rows ≡ [] → (length rows ≡ 0) × AreSummaries codes 0 rows
+no_rows codes rows e = (ap length e, record { count = omega arith; right = λ k found h. absurd (omega arith) })
 
-pub no_rows : (codes : List Code) (rows : List (List SiteLead)) → rows ≡ [] → (length rows ≡ 0) × AreInsides codes 0 rows
-no_rows codes rows e = (ap length e, record { count = omega arith; right = λ k h. absurd (omega arith) })
+pub summary_is : (codes : List Code) (p : ProcId) (code : Code) (block : List CodeStmt) (sources : List Source) (leads : List SiteLead) (result : Source) → slice_get codes p.0 ≡ Some code → block ≡ code.block →
+    (leads ≡ leads_in_all (results codes p.0) (insides codes p.0) p (block_of block)) × StandFor (over_all (results codes p.0) (block_of block)) sources →
+    ((before : Lead → Lead) → StandFor before sources → LeadsAs result (λ want. before (on_operand code.result (Some want)))) → IsSummary codes p.0 (record { leads = leads; result = result })
+summary_is codes p code block sources leads result at same walk returns =
+    record {
+      leads = proc_leads_are codes p code block leads at same walk.0;
+      result = λ want w. returns (over_all (results codes p.0) (block_of block)) walk.1 want w
+          ∙ ap (λ (b : List CodeStmt). over_all (results codes p.0) (block_of b) (on_operand code.result (Some want))) same
+          ∙ ap (λ o. over_code (results codes p.0) o want) (sym at);
+    }

@@ -1,7 +1,8 @@
 pub mod Sizes
-pub mod Assigning
 pub mod Shifting
+pub mod Holding
 pub mod Going
+pub mod Standing
 pub mod Leading
 pub mod Keeping
 pub mod Found

@@ -16,7 +16,7 @@ le_true a b h = grind (arith, ints)
 le_false : (a b : ℤ) → b <ℤ a → int_le a b ≡ false
 le_false a b h = grind (arith, ints)
 
-true_le : (a b : ℤ) → int_le a b ≡ true → a ≤ℤ b
+pub true_le : (a b : ℤ) → int_le a b ≡ true → a ≤ℤ b
 true_le a b h = grind (arith, ints)
 
 false_le : (a b : ℤ) → int_le a b ≡ false → b <ℤ a
@@ -60,7 +60,7 @@ less_low lo by a e h = omega (arith, ints, clamps)
 less_high : (hi by b : ℤ) → hi ≡ int_min greatest (greatest +ℤ by) → b ≤ℤ greatest → int_min (b +ℤ by) hi ≡ int_min (b +ℤ by) greatest
 less_high hi by b e h = omega (arith, ints, clamps)
 
-is_word-range : (z : ℤ) → (if is_word z then Some (Except z) else None) ≡ kept_from least greatest z
+pub is_word-range : (z : ℤ) → (if is_word z then Some (Except z) else None) ≡ kept_from least greatest z
 is_word-range z = by (int_lt z (pos (2 ^ 63))) (int_le z greatest) refl refl
   where
     by : (p q : Bool) → int_lt z (pos (2 ^ 63)) ≡ p → int_le z greatest ≡ q → (if is_word z then Some (Except z) else None) ≡ kept_from least greatest z
@@ -110,7 +110,7 @@ shift_none s (Except c) w (inl h) = out s.lo s.hi (c +ℤ by_of s) h
         by false e = out_of_range lo hi z (inl (false_le lo z e))
 shift_none s (Except c) w (inr h) = let k : c ≤ℤ greatest = w.1 in out_of_range s.lo s.hi (c +ℤ by_of s) (inl (omega (arith, ints)))
 
-fits_range : (z : ℤ) → FitsSigned w64 z → (least ≤ℤ z) × (z ≤ℤ greatest)
+pub fits_range : (z : ℤ) → FitsSigned w64 z → (least ≤ℤ z) × (z ≤ℤ greatest)
 fits_range z h = (grind (arith, ints), grind (arith, ints))
 
 pub greatest_end : (lo sum from x by y : ℤ) → lo ≡ int_max sum from → sum ≡ x +ℤ by → from ≡ y → FitsSigned w64 x → FitsSigned w64 y → by ≤ℤ pos (2 ^ 64) → lo ≤ℤ pos (2 ^ 66)

@@ -44,19 +44,19 @@ pub is_repeat : (s : CodeStmt) (r : CodeRepeat) → s ≡ Repeat r → stmt_of s
 is_repeat s r is = ap stmt_of is ∙ stmt_of-repeat r.index r.slot r.bound r.cap r.site r.body
 
 -- the bound falls with each call
-pub falls_first : (t : ℕ) (s : CodeStmt) (test : CodeTest) (first second one : List CodeStmt) → s ≡ If test first second → one ≡ first → 2 * size (stmt_of s) ≡ t → 2 * block_size (block_of one) + 1 < t
+pub falls_first : (t : ℕ) (s : CodeStmt) (test : CodeTest) (first second one : List CodeStmt) → s ≡ If test first second → one ≡ first → 3 * size (stmt_of s) ≡ t → 3 * block_size (block_of one) + 2 < t
 falls_first t s test first second one is a d =
     let e : size (stmt_of s) ≡ 1 + block_size (block_of first) + block_size (block_of second) = ap size (is_if s test first second is) in
     let f : block_size (block_of one) ≡ block_size (block_of first) = ap (λ (b : List CodeStmt). block_size (block_of b)) a in
     omega arith
 
-pub falls_second : (t : ℕ) (s : CodeStmt) (test : CodeTest) (first second one : List CodeStmt) → s ≡ If test first second → one ≡ second → 2 * size (stmt_of s) ≡ t → 2 * block_size (block_of one) + 1 < t
+pub falls_second : (t : ℕ) (s : CodeStmt) (test : CodeTest) (first second one : List CodeStmt) → s ≡ If test first second → one ≡ second → 3 * size (stmt_of s) ≡ t → 3 * block_size (block_of one) + 2 < t
 falls_second t s test first second one is a d =
     let e : size (stmt_of s) ≡ 1 + block_size (block_of first) + block_size (block_of second) = ap size (is_if s test first second is) in
     let f : block_size (block_of one) ≡ block_size (block_of second) = ap (λ (b : List CodeStmt). block_size (block_of b)) a in
     omega arith
 
-pub falls_repeat : (t : ℕ) (s : CodeStmt) (r : CodeRepeat) (one : List CodeStmt) → s ≡ Repeat r → one ≡ r.body → 2 * size (stmt_of s) ≡ t → 2 * block_size (block_of one) + 1 < t
+pub falls_repeat : (t : ℕ) (s : CodeStmt) (r : CodeRepeat) (one : List CodeStmt) → s ≡ Repeat r → one ≡ r.body → 3 * size (stmt_of s) ≡ t → 3 * block_size (block_of one) + 2 < t
 falls_repeat t s r one is a d =
     let e : size (stmt_of s) ≡ 1 + block_size (block_of r.body) = ap size (is_repeat s r is) in
     let f : block_size (block_of one) ≡ block_size (block_of r.body) = ap (λ (b : List CodeStmt). block_size (block_of b)) a in
@@ -68,5 +68,5 @@ item_size [] i s h is = absurd (omega arith)
 item_size (b ∷ block) zero s h is = let e : size (stmt_of s) ≡ size (stmt_of b) = ap (λ (x : CodeStmt). size (stmt_of x)) is in omega arith
 item_size (b ∷ block) (suc i) s h is = let k = item_size block i s (omega (arith, h)) is in omega arith
 
-pub falls_item : (t : ℕ) (block : List CodeStmt) (i : ℕ) (s : CodeStmt) → i < length block → s ≡ get_or block i s → 2 * block_size (block_of block) + 1 ≡ t → 2 * size (stmt_of s) < t
+pub falls_item : (t : ℕ) (block : List CodeStmt) (i : ℕ) (s : CodeStmt) → i < length block → s ≡ get_or block i s → 3 * block_size (block_of block) + 1 ≡ t → 3 * size (stmt_of s) < t
 falls_item t block i s h is d = let k = item_size block i s h is in omega arith

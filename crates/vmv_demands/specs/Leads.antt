@@ -1,5 +1,5 @@
 -- Where the conditions of sites lead.
-use Rattle.std.specs.Prelude.{◌≡◌, ℕ, zero, suc, ◌==◌, ◌<◌, ◌≤◌, Option, Some, None, List, [], ◌∷◌, ◌++◌, length, slice_get, if◌then◌else◌}
+use Rattle.std.specs.Prelude.{ℕ, zero, suc, ◌==◌, Option, Some, None, List, [], ◌∷◌, ◌++◌, slice_get, if◌then◌else◌}
 use Rattle.std.specs.List.{filter_map}
 use Rattle.vmv_snapshot.specs.declared.code.ProcId.{ProcId}
 use Rattle.vmv_snapshot.specs.declared.code.SiteId.{SiteId}
@@ -64,11 +64,6 @@ insides codes (suc n) callee = if callee == n then leads_in_code (results codes 
 -- the conditions of the sites in procedure n and in its calls, led to its start
 abbrev pub proc_leads : List Code → ℕ → List SiteLead
 proc_leads codes n = leads_in_code (results codes n) (insides codes n) n (slice_get codes n)
-
--- rows by number: for each of the first n procedures the conditions of its sites, led to its start
-pub record AreInsides (codes : List Code) (n : ℕ) (rows : List (List SiteLead)) : Type 0 where
-  pub count : n ≤ length rows
-  pub right : (k : ℕ) → k < n → slice_get rows k ≡ Some (proc_leads codes k)
 
 -- what has come to the answer of an outside function; what is still wanted of a variable at the start comes to nothing
 abbrev pub asked_by : SiteId → Lead → Option Found

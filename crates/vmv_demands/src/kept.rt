@@ -1,17 +1,22 @@
 ghost use Rattle.std.specs.Prelude.{◌≡◌, ◌<◌, [], ◌∷◌, true, Some, length, map, slice_get, IfOk, OnOk};
 ghost use Rattle.std.specs.List.{list_any, filter_map, AllZip};
-ghost use Rattle.vmv_snapshot.specs.View.{stmt_of, block_of};
+ghost use Rattle.vmv_snapshot.specs.View.{stmt_of};
 ghost use Rattle.vmv_snapshot.specs.Procs.{is_entry};
 ghost use Rattle.vmv_snapshot.specs.Resolution.{procs_of};
 ghost use Rattle.vmv_back.specs.Kept.{keep, keep_all};
-ghost use Rattle.vmv_demands.specs.Back.{over_all, results};
-ghost use Rattle.vmv_demands.specs.Leads.{led_on, leads_in, insides, asked, AreInsides};
+ghost use Rattle.vmv_demands.specs.declared.lead.Lead.{Lead as Led};
+ghost use Rattle.vmv_demands.specs.Back.{results};
+ghost use Rattle.vmv_demands.specs.Leads.{led_on, leads_in, insides, asked};
+ghost use Rattle.vmv_demands.specs.Sources.{StandFor, AreSummaries};
 ghost use Rattle.vmv_demands.specs.Demands.{same_condition, same_found, first_wanted, IsCondOf, IsDemand, AreDemands};
 
-use crate::back::over_all;
 use crate::demand::{Demand, Demands};
 use crate::lead::{Found, SiteLead};
-use crate::leads::{Leads, asked, insides, leads_in};
+use crate::leads::{asked, leads_in, summaries};
+use crate::slots::Sources;
+use crate::source::Source;
+use crate::sources::{lead_before, step};
+use crate::summary::Summary;
 use crate::want::Condition;
 use sqlite_items::Items;
 use std::alloc::{AllocError, Global};
@@ -66,59 +71,56 @@ fn keep_asked(kept: &mut Items<Found>, led: &SiteLead) -> Result<(), AllocError>
     }
 }
 
-/// Keeps what stands behind statements of a procedure and comes to answers before them.
-fn keep_over_all(
+/// Keeps what stands behind statements and comes to answers before them.
+fn keep_before(
     kept: &mut Items<Found>,
-    snapshot: &Snapshot,
-    proc: ProcId,
-    before: &[CodeStmt],
+    sources: &[Source],
     behind: &[SiteLead],
 ) -> Result<(), AllocError>
-    requires { proc.0 < length (procs_of snapshot.now) }
-    ensures { OnOk result (kept.new ≡ keep_all 32 same_found kept.old (filter_map asked (led_on (over_all (results snapshot.now.codes proc.0) (block_of before.now)) behind.now))) }
+    ensures { OnOk result ((before : Led → Led) → StandFor before sources.now → kept.new ≡ keep_all 32 same_found kept.old (filter_map asked (led_on before behind.now))) }
 {
     for led in behind {
-        let lead = over_all(snapshot, proc, before, led.lead);
+        let lead = lead_before(sources, led.lead);
         let site = led.site;
         keep_asked(kept, &SiteLead { site, lead })?;
     }
     Ok(())
 }
 
-/// Keeps what a statement wants of answers, before which these stand; nothing more where 32 are kept.
+/// Keeps what a statement behind others wants of answers; nothing more where 32 are kept.
 fn keep_wanted(
     kept: &mut Items<Found>,
     alloc: Global,
     snapshot: &Snapshot,
-    rows: &[Leads],
+    rows: &[Summary],
+    sources: &[Source],
     proc: ProcId,
-    before: &[CodeStmt],
     stmt: &CodeStmt,
 ) -> Result<(), AllocError>
-    requires proc { proc.0 < length (procs_of snapshot.now) }
-    requires rows { AreInsides snapshot.now.codes proc.0 rows.now }
-    ensures { OnOk result (kept.new ≡ keep_all 32 same_found kept.old (filter_map asked (led_on (over_all (results snapshot.now.codes proc.0) (block_of before.now)) (leads_in (results snapshot.now.codes proc.0) (insides snapshot.now.codes proc.0) proc (stmt_of stmt.now))))) }
+    requires { AreSummaries snapshot.now.codes proc.0 rows.now }
+    ensures { OnOk result ((before : Led → Led) → StandFor before sources.now → kept.new ≡ keep_all 32 same_found kept.old (filter_map asked (led_on before (leads_in (results snapshot.now.codes proc.0) (insides snapshot.now.codes proc.0) proc (stmt_of stmt.now))))) }
 {
     if kept.len() >= 32 {
         return Ok(());
     }
     let behind = leads_in(alloc, snapshot, rows, proc, stmt)?;
-    keep_over_all(kept, snapshot, proc, before, behind.as_slice())
+    keep_before(kept, sources, behind.as_slice())
 }
 
-/// What the sites of a procedure and of its calls want of answers: the first 32 different ones. `rows` has the conditions of
-/// the sites in each procedure before it.
+/// What the sites of a procedure and of its calls want of answers: the first 32 different ones. `rows` has the procedures
+/// before it.
 pub(crate) fn first_wanted(
     alloc: Global,
     snapshot: &Snapshot,
-    rows: &[Leads],
+    rows: &[Summary],
     proc: ProcId,
 ) -> Result<Items<Found>, AllocError>
     requires proc { proc.0 < length (procs_of snapshot.now) }
-    requires rows { AreInsides snapshot.now.codes proc.0 rows.now }
+    requires rows { AreSummaries snapshot.now.codes proc.0 rows.now }
     ensures { IfOk result (λ found. found ≡ first_wanted snapshot.now proc.0) }
 {
     let block = snapshot.code(proc).block.as_slice();
+    let mut sources = Sources::new(alloc);
     let mut kept = Items::new(alloc);
     for i in 0..block.len() {
         keep_wanted(
@@ -126,10 +128,11 @@ pub(crate) fn first_wanted(
             alloc,
             snapshot,
             rows,
+            sources.as_slice(),
             proc,
-            &block[..i],
             &block[i],
         )?;
+        step(&mut sources, snapshot, rows, proc, &block[i])?;
     }
     Ok(kept)
 }
@@ -170,7 +173,7 @@ pub fn demands(alloc: Global, snapshot: &Snapshot, entry: ProcId) -> Result<Dema
     requires { slice_get (map is_entry (procs_of snapshot.now)) entry.0 ≡ Some true }
     ensures { IfOk result (AreDemands snapshot.now entry.0) }
 {
-    let rows = insides(alloc, snapshot, entry.0)?;
+    let rows = summaries(alloc, snapshot, entry.0)?;
     let wanted = first_wanted(alloc, snapshot, rows.as_slice(), entry)?;
     all_demands(alloc, wanted.as_slice())
 }

@@ -1,18 +1,21 @@
-ghost use Rattle.std.specs.Prelude.{◌≡◌, ◌<◌, ◌≤◌, ◌++◌, length, IfOk, OnOk};
+ghost use Rattle.std.specs.Prelude.{◌≡◌, ◌<◌, ◌≤◌, [], ◌++◌, length, IfOk, OnOk};
 ghost use Rattle.vmv_snapshot.specs.View.{stmt_of, block_of};
 ghost use Rattle.vmv_snapshot.specs.Resolution.{procs_of};
-ghost use Rattle.vmv_demands.specs.Back.{out_of_call, out_of_loop, over_all, results};
-ghost use Rattle.vmv_demands.specs.Leads.{lead_of, led_on, simple_leads, leads_in, leads_in_all, insides, proc_leads, asked, AreInsides};
+ghost use Rattle.vmv_demands.specs.declared.lead.Lead.{Lead as Led};
+ghost use Rattle.vmv_demands.specs.Back.{out_of_call, over_all, results};
+ghost use Rattle.vmv_demands.specs.Leads.{lead_of, led_on, simple_leads, leads_in, leads_in_all, insides, asked};
+ghost use Rattle.vmv_demands.specs.Sources.{StandFor, IsSummary, AreSummaries};
 
-use crate::back::{out_of_call, out_of_loop, over_all};
 use crate::lead::{Found, Lead, SiteLead};
+use crate::lost::lose;
 use crate::needs::{arith_needs, bound_needs, test_needs};
+use crate::slots::Sources;
+use crate::source::Source;
+use crate::sources::{lead_before, operand, out_of_call, step};
+use crate::summary::{Leads, Summary};
 use sqlite_items::Items;
 use std::alloc::{AllocError, Global};
-use vmv_snapshot::{CodeOperand, CodeRepeat, CodeStmt, ProcId, Simple, SiteId, Snapshot};
-
-/// Sites with where their conditions lead.
-pub(crate) type Leads = Items<SiteLead>;
+use vmv_snapshot::{CodeOperand, CodeStmt, ProcId, Simple, SiteId, Snapshot};
 
 /// Adds a site, unless its condition leads nowhere.
 fn push(leads: &mut Leads, site: SiteId, lead: Lead) -> Result<(), AllocError>
@@ -62,49 +65,28 @@ fn push_out_of_call(
     Ok(())
 }
 
-/// Adds what stands at the start of a loop's body, led to before the loop.
-fn push_out_of_loop(
-    leads: &mut Leads,
-    repeat: &CodeRepeat,
-    inside: &[SiteLead],
-) -> Result<(), AllocError>
-    ensures { OnOk result (leads.new ≡ leads.old ++ led_on (out_of_loop repeat.now.index (block_of repeat.now.body)) inside.now) }
-{
-    for led in inside {
-        push(leads, led.site, out_of_loop(repeat, led.lead))?;
-    }
-    Ok(())
-}
-
-/// Adds what stands behind statements of a procedure, led to before them.
-fn push_over_all(
-    leads: &mut Leads,
-    snapshot: &Snapshot,
-    proc: ProcId,
-    before: &[CodeStmt],
-    behind: &[SiteLead],
-) -> Result<(), AllocError>
-    requires { proc.0 < length (procs_of snapshot.now) }
-    ensures { OnOk result (leads.new ≡ leads.old ++ led_on (over_all (results snapshot.now.codes proc.0) (block_of before.now)) behind.now) }
+/// Adds what stands behind statements, led to before them.
+fn push_before(leads: &mut Leads, sources: &[Source], behind: &[SiteLead]) -> Result<(), AllocError>
+    ensures { OnOk result ((before : Led → Led) → StandFor before sources.now → leads.new ≡ leads.old ++ led_on before behind.now) }
 {
     for led in behind {
-        push(leads, led.site, over_all(snapshot, proc, before, led.lead))?;
+        let lead = lead_before(sources, led.lead);
+        push(leads, led.site, lead)?;
     }
     Ok(())
 }
 
-/// The conditions of the sites in a statement of the procedure of this number, led back to before it. `rows` has those of
-/// each procedure before it.
+/// The conditions of the sites in a statement of the procedure of this number, led back to before it. `rows` has the
+/// procedures before it.
 #[cycle(leads)]
 pub(crate) fn leads_in(
     alloc: Global,
     snapshot: &Snapshot,
-    rows: &[Leads],
+    rows: &[Summary],
     proc: ProcId,
     stmt: &CodeStmt,
 ) -> Result<Leads, AllocError>
-    requires proc { proc.0 < length (procs_of snapshot.now) }
-    requires rows { AreInsides snapshot.now.codes proc.0 rows.now }
+    requires { AreSummaries snapshot.now.codes proc.0 rows.now }
     ensures { IfOk result (λ leads. leads ≡ leads_in (results snapshot.now.codes proc.0) (insides snapshot.now.codes proc.0) proc (stmt_of stmt.now)) }
 {
     let mut leads = Leads::new(alloc);
@@ -118,8 +100,8 @@ pub(crate) fn leads_in(
             if callee.0 >= proc.0 {
                 return Ok(leads);
             }
-            let inside = &rows[callee.0 as usize];
-            push_out_of_call(&mut leads, args.as_slice(), inside.as_slice())?;
+            let inside = rows[callee.0 as usize].leads.as_slice();
+            push_out_of_call(&mut leads, args.as_slice(), inside)?;
             Ok(leads)
         }
         CodeStmt::If { first, second, .. } => {
@@ -134,7 +116,9 @@ pub(crate) fn leads_in(
             };
             push(&mut leads, site, bound_needs(repeat.bound, repeat.cap))?;
             let inside = leads_in_all(alloc, snapshot, rows, proc, repeat.body.as_slice())?;
-            push_out_of_loop(&mut leads, repeat, inside.as_slice())?;
+            let mut turned = Sources::new(alloc);
+            lose(&mut turned, stmt)?;
+            push_before(&mut leads, turned.as_slice(), inside.as_slice())?;
             Ok(leads)
         }
     }
@@ -145,50 +129,77 @@ pub(crate) fn leads_in(
 fn leads_in_all(
     alloc: Global,
     snapshot: &Snapshot,
-    rows: &[Leads],
+    rows: &[Summary],
     proc: ProcId,
     block: &[CodeStmt],
 ) -> Result<Leads, AllocError>
-    requires proc { proc.0 < length (procs_of snapshot.now) }
-    requires rows { AreInsides snapshot.now.codes proc.0 rows.now }
+    requires { AreSummaries snapshot.now.codes proc.0 rows.now }
     ensures { IfOk result (λ leads. leads ≡ leads_in_all (results snapshot.now.codes proc.0) (insides snapshot.now.codes proc.0) proc (block_of block.now)) }
+{
+    walk(alloc, snapshot, rows, proc, block, &mut Sources::new(alloc))
+}
+
+/// The same, with what the variables hold behind the statements.
+#[cycle(leads)]
+fn walk(
+    alloc: Global,
+    snapshot: &Snapshot,
+    rows: &[Summary],
+    proc: ProcId,
+    block: &[CodeStmt],
+    sources: &mut Sources,
+) -> Result<Leads, AllocError>
+    requires rows { AreSummaries snapshot.now.codes proc.0 rows.now }
+    requires none { sources.old ≡ [] }
+    ensures { IfOk result (λ leads. (leads ≡ leads_in_all (results snapshot.now.codes proc.0) (insides snapshot.now.codes proc.0) proc (block_of block.now)) × StandFor (over_all (results snapshot.now.codes proc.0) (block_of block.now)) sources.new) }
 {
     let mut leads = Leads::new(alloc);
     for i in 0..block.len() {
         let behind = leads_in(alloc, snapshot, rows, proc, &block[i])?;
-        push_over_all(&mut leads, snapshot, proc, &block[..i], behind.as_slice())?;
+        push_before(&mut leads, sources.as_slice(), behind.as_slice())?;
+        step(sources, snapshot, rows, proc, &block[i])?;
     }
     Ok(leads)
 }
 
-/// The conditions of the sites in a procedure and in its calls, led to its start.
-fn proc_leads(
+/// The conditions of the sites in a procedure and in its calls, and what it returns, in terms of its start.
+fn summary(
     alloc: Global,
     snapshot: &Snapshot,
-    rows: &[Leads],
+    rows: &[Summary],
     proc: ProcId,
-) -> Result<Leads, AllocError>
+) -> Result<Summary, AllocError>
     requires proc { proc.0 < length (procs_of snapshot.now) }
-    requires rows { AreInsides snapshot.now.codes proc.0 rows.now }
-    ensures { IfOk result (λ leads. leads ≡ proc_leads snapshot.now.codes proc.0) }
+    requires rows { AreSummaries snapshot.now.codes proc.0 rows.now }
+    ensures { IfOk result (IsSummary snapshot.now.codes proc.0) }
 {
-    let block = snapshot.code(proc).block.as_slice();
-    leads_in_all(alloc, snapshot, rows, proc, block)
+    let code = snapshot.code(proc);
+    let mut sources = Sources::new(alloc);
+    let leads = walk(
+        alloc,
+        snapshot,
+        rows,
+        proc,
+        code.block.as_slice(),
+        &mut sources,
+    )?;
+    let result = operand(sources.as_slice(), code.result);
+    Ok(Summary { leads, result })
 }
 
-/// The conditions of the sites in each of so many procedures and in its calls, led to its start: each made once, from
-/// those of the procedures before it, which are all that it calls.
-pub(crate) fn insides(
+/// A summary of each of so many procedures: each made once, from those of the procedures before it, which are all that it
+/// calls.
+pub(crate) fn summaries(
     alloc: Global,
     snapshot: &Snapshot,
     count: u16,
-) -> Result<Items<Leads>, AllocError>
+) -> Result<Items<Summary>, AllocError>
     requires { count ≤ length (procs_of snapshot.now) }
-    ensures { IfOk result (AreInsides snapshot.now.codes count) }
+    ensures { IfOk result (AreSummaries snapshot.now.codes count) }
 {
     let mut rows = Items::new(alloc);
     for n in 0..count {
-        let row = proc_leads(alloc, snapshot, rows.as_slice(), ProcId(n))?;
+        let row = summary(alloc, snapshot, rows.as_slice(), ProcId(n))?;
         rows.push(row)?;
     }
     Ok(rows)

@@ -2,16 +2,19 @@
 //! each site; and the ends of their ranges.
 #![tactic(auto)]
 
-mod assigned;
-mod back;
 mod demand;
 mod kept;
 mod laws;
 mod lead;
 mod leads;
+mod lost;
 mod name_ends;
 mod needs;
 mod shift;
+mod slots;
+mod source;
+mod sources;
+mod summary;
 mod want;
 
 pub use demand::{Demand, Demands};

@@ -1,12 +1,13 @@
 ghost use Rattle.std.specs.Prelude.{◌≡◌, ◌<◌, ◌++◌, length, map, slice_get, IfOk, OnOk};
 ghost use Rattle.vmv_snapshot.specs.Procs.{is_entry};
 ghost use Rattle.vmv_snapshot.specs.Resolution.{procs_of};
-ghost use Rattle.vmv_demands.specs.Leads.{AreInsides};
+ghost use Rattle.vmv_demands.specs.Sources.{AreSummaries};
 ghost use Rattle.vmv_demands.specs.Ends.{both_ends, ends_of, entry_wants, all_wants, level_ends, ends_for, AreEnds};
 
 use crate::kept::first_wanted;
 use crate::lead::Found;
-use crate::leads::{Leads, insides};
+use crate::leads::summaries;
+use crate::summary::Summary;
 use crate::want::Condition;
 use sqlite_items::Items;
 use std::alloc::{AllocError, Global};
@@ -59,11 +60,11 @@ fn push_entry(
     wanted: &mut Items<Found>,
     alloc: Global,
     snapshot: &Snapshot,
-    rows: &[Leads],
+    rows: &[Summary],
     proc: ProcId,
 ) -> Result<(), AllocError>
     requires proc { proc.0 < length (procs_of snapshot.now) }
-    requires rows { AreInsides snapshot.now.codes proc.0 rows.now }
+    requires rows { AreSummaries snapshot.now.codes proc.0 rows.now }
     ensures { OnOk result (wanted.new ≡ wanted.old ++ entry_wants snapshot.now proc.0 (slice_get (map is_entry (procs_of snapshot.now)) proc.0)) }
 {
     if !snapshot.is_entry(proc) {
@@ -78,7 +79,7 @@ fn all_wants(alloc: Global, snapshot: &Snapshot) -> Result<Items<Found>, AllocEr
     ensures { IfOk result (λ wanted. wanted ≡ all_wants snapshot.now) }
 {
     let count = snapshot.proc_count();
-    let rows = insides(alloc, snapshot, count)?;
+    let rows = summaries(alloc, snapshot, count)?;
     let mut wanted = Items::new(alloc);
     for n in 0..count {
         push_entry(&mut wanted, alloc, snapshot, rows.as_slice(), ProcId(n))?;

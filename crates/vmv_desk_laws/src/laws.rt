@@ -1,11 +1,12 @@
-ghost use Rattle.std.specs.Prelude.{◌≡◌, ◌≢◌, ℕ, List, Some, None, IsSomeAnd};
-ghost use Rattle.vmv_keeper.specs.Formed.{AreFormed, IsDone};
+ghost use Rattle.std.specs.Prelude.{◌≡◌, ◌≢◌, ◌≤◌, ℕ, List, Some, None, IsSomeAnd};
+ghost use Rattle.std.specs.List.{AllByRecursion};
+ghost use Rattle.vmv_keeper.specs.Formed.{AreFormed, IsDone, IsProject};
 ghost use Rattle.vmv_keeper.specs.declared.act.Act.{Act};
 ghost use Rattle.vmv_keeper.specs.declared.act.Query.{Query};
-ghost use Rattle.vmv_keeper.specs.Tables.{Tables, project_named, kept_under};
+ghost use Rattle.vmv_keeper.specs.Tables.{Tables, project_named, kept_under, root_number, version_text};
 ghost use Rattle.vmv_keeper.specs.declared.project.Project.{Project};
 ghost use Rattle.vmv_keeper.specs.declared.reply.Reply.{Reply};
-ghost use Rattle.vmv_desk_rules.specs.Causes.{Meaning};
+ghost use Rattle.vmv_desk_rules.specs.Causes.{Meaning, chain, root_text};
 ghost use Rattle.vmv_desk_rules.specs.Step.{Step};
 ghost use Rattle.vmv_desk_rules.specs.Runs.{Turn, Runs};
 ghost use Rattle.vmv_desk_laws.specs.Seen.{seen_by, caller_of};
@@ -68,4 +69,11 @@ pub fn failures_change_nothing()
         → (IsDone act reply → ⊥) → new ≡ tables }
     ensures questions { (J : Meaning) (tables new : Tables) (caller : List ℕ) (query : Query) (reply : Reply) → Turn J tables (Command.Ask caller query) new reply
         → new ≡ tables }
+{}
+
+/// A law, with nothing to do: a project's latest root begins its chain. The version of the root's number has the text of
+/// the chain's first version, and no version of the chain has a number below it.
+pub fn roots_begin_their_chains()
+    ensures text { (p : Project) → IsProject p → version_text (root_number p) p ≡ Some (root_text p) }
+    ensures numbers { (p : Project) → IsProject p → AllByRecursion (λ version. root_number p ≤ version.row.number) (chain p) }
 {}

@@ -37,3 +37,5 @@ mod Scaling
 mod Opening
 mod Reached
 mod Beside
+mod Marking
+mod Flagging

@@ -1,4 +1,7 @@
 -- What a visit of an instance changes, and what it leaves.
+use Rattle.std.specs.List.{Contains}
+use Rattle.vmv_zone.proofs.Equal.{by_truth}
+use Rattle.vmv_check.proofs.Lists.{got_in}
 use Rattle.std.proofs.Common.{◌≡◌, ◌⊎◌, inl, inr, ⊎_elim, ℕ, zero, suc, ◌+◌, ◌<◌, ◌≤◌, ℤ, Bool, Some, List, [], ◌∷◌, length, slice_get, IsTrue, IsFalse, refl, sym, ap, subst, arith, ◌∙◌}
 use Rattle.std.specs.Prelude.{slice_set, sum_by}
 use Rattle.std.specs.List.{All, AllZip}
@@ -249,15 +252,16 @@ fit_stays q xs j raised s ys s' v from fit =
 -- the input and the result of an instance
 
 -- the input before the visit was below that behind it, and the same where nothing was raised
-pub record InputBefore (q : Quest) (xs : List Path) (raised : Bool) (path : Path) (input' : Zone) : Type 0 where
+pub record InputBefore (q : Quest) (xs : List Path) (j : ℕ) (raised : Bool) (path : Path) (input' : Zone) : Type 0 where
   pub input : Zone
   pub has : HasInput xs path input
   pub below : IsBelow input input'
   pub vars : input'.vars ≡ input.vars
   pub stay : IsFalse raised → input' ≡ input
+  pub apart : (path.caller ≡ j → ⊥) → input' ≡ input
 
 pub input_before : (q : Quest) (xs : List Path) (j : ℕ) (raised : Bool) (s : ℕ) (ys : List Path) (s' : ℕ) (v : Seen q xs j raised s ys s') (i : ℕ) (path path' : Path) (input' : Zone) →
-    Moved q v.visited.old j v.visited.old.caller v.visited.old.place v.visited.range raised i path path' → HasInput ys path' input' → InputBefore q xs raised path input'
+    Moved q v.visited.old j v.visited.old.caller v.visited.old.place v.visited.range raised i path path' → HasInput ys path' input' → InputBefore q xs j raised path input'
 input_before q xs j raised s ys s' v i path path' input' m (caller', there, at) =
     let b = back q xs j raised s ys s' v path'.caller caller' there in
     let one : slice_get xs path.caller ≡ Some b.0 = subst (λ k. slice_get xs k ≡ Some b.0) m.caller b.1 in
@@ -269,6 +273,7 @@ input_before q xs j raised s ys s' v i path path' input' m (caller', there, at) 
       below = z.2.1;
       vars = z.2.0;
       stay = λ f. some_same (sym at' ∙ subst (λ (l : List Zone). slice_get l path.place ≡ Some z.0) (sym (b.2.stay f)) z.1);
+      apart = λ n. some_same (sym at' ∙ subst (λ (l : List Zone). slice_get l path.place ≡ Some z.0) (sym (b.2.inputs (λ e. n (sym m.caller ∙ e)))) z.1);
     }
 
 -- the result behind the visit is the range of the instance that was visited, and else what it was
@@ -324,21 +329,28 @@ settled_here q xs j raised s ys s' v from grown still path input result item cod
     let b2 = subst (λ (z : Zone). Settles (stored_of q.assumed path) item code z o.range) (sym (before.stay still ∙ taken)) b1 in
     subst (λ (c : Cond). Settles (stored_of q.assumed path) item code input c) (sym range) b2
 
--- where nothing was raised, an instance that is called later stays settled
-pub settled_stays : (q : Quest) (xs : List Path) (j : ℕ) (raised : Bool) (s : ℕ) (ys : List Path) (s' : ℕ) (v : Seen q xs j raised s ys s') (k : ℕ) → 1 ≤ j → j < k → IsGrown q.program q.entry xs → IsFalse raised → IsSettled q xs k → IsSettled q ys k
-settled_stays q xs j raised s ys s' v k from after grown still settled path' input result item code at has given is =
+-- an instance stays settled that isn't the one that was visited, nor its caller, nor one that it calls where something was raised
+pub settled_stays : (q : Quest) (xs : List Path) (j : ℕ) (raised : Bool) (s : ℕ) (ys : List Path) (s' : ℕ) (v : Seen q xs j raised s ys s') (k : ℕ) → 1 ≤ k → (k ≡ j → ⊥) → (k ≡ v.visited.old.caller → ⊥) →
+    (IsTrue raised → Contains v.visited.old.callees k → ⊥) → IsGrown q.program q.entry xs → IsSettled q xs k → IsSettled q ys k
+settled_stays q xs j raised s ys s' v k from apart off uncalled grown settled path' input result item code at has given is =
     let o = v.visited in
     let b = back q xs j raised s ys s' v k path' at in
-    let apart : k ≡ j → ⊥ = λ e. omega arith in
-    let off : k ≡ o.old.caller → ⊥ = λ e. (let h = v.before in omega arith) in
     let same : path' ≡ b.0 = b.2.same apart off in
     let before = input_before q xs j raised s ys s' v k b.0 path' input b.2 has in
     let is' = subst (λ (n : ProcId). IsProc q.program n.0 item code) b.2.proc is in
+    let placed = grown.placed k b.0 from b.1 in
     let mine : HasResult xs b.0 result = ⊎_elim (λ (h : (k ≡ j) × (result ≡ o.range)). absurd (apart h.0)) (λ (h : HasResult xs b.0 result). h)
-    (result_before q xs j raised s ys s' v k b.0 path' result (grown.placed k b.0 (omega arith) b.1) b.2 given) in
+    (result_before q xs j raised s ys s' v k b.0 path' result placed b.2 given) in
     let body = settled b.0 before.input result item code b.1 before.has mine is' in
     let b1 = subst (λ (x : Path). Settles (stored_of q.assumed x) item code before.input result) (sym same) body in
-    subst (λ (z : Zone). Settles (stored_of q.assumed path') item code z result) (sym (before.stay still)) b1
+    let stays : input ≡ before.input = by_truth raised
+    (λ h. before.apart
+    (λ e.
+    let here : placed.caller ≡ o.old = some_same (sym placed.there ∙ (ap (slice_get xs) e ∙ o.old_is)) in
+    let called = subst (λ (x : Path). slice_get x.callees b.0.place ≡ Some k) here placed.called in
+    uncalled h (got_in o.old.callees b.0.place k called)))
+    (λ h. before.stay h) in
+    subst (λ (z : Zone). Settles (stored_of q.assumed path') item code z result) (sym stays) b1
 
 -- sums over the instances
 sum_moved : (f : Path → ℕ) (q : Quest) (xs : List Path) (j : ℕ) (raised : Bool) (s : ℕ) (ys : List Path) (s' : ℕ) (v : Seen q xs j raised s ys s') →

@@ -1,5 +1,5 @@
 -- Rounds over the instances, which raise what is stored for them.
-use Rattle.std.specs.Prelude.{◌≡◌, ℕ, ◌+◌, ◌<◌, ◌≤◌, ℤ, Bool, Option, Some, List, [], ◌∷◌, length, slice_get, slice_set, sum_by, IsTrue, IsFalse}
+use Rattle.std.specs.Prelude.{◌≡◌, ℕ, ◌+◌, ◌<◌, ◌≤◌, ℤ, Bool, Option, Some, List, [], ◌∷◌, length, slice_get, slice_set, sum_by, IsTrue, IsFalse, false}
 use Rattle.std.specs.List.{All, Contains}
 use Rattle.vmv_tree.specs.Tree.{Item}
 use Rattle.vmv_cond.specs.declared.cond.Cond.{Cond}
@@ -167,3 +167,28 @@ pub record IsVisited (q : Quest) (paths : List Path) (j : ℕ) (raised : Bool) (
   pub range : Cond
   pub passed : IsPassed q input old new range raised steps steps'
   pub changed : paths' ≡ slice_set (slice_set paths j new) old.caller (record caller { results = slice_set caller.results old.place range })
+
+-- each instance that hasn't to be visited again is settled
+pub record AreDue (q : Quest) (paths : List Path) (due : List Bool) : Type 0 where
+  pub count : length due ≡ length paths
+  pub others : (k : ℕ) → 1 ≤ k → slice_get due k ≡ Some false → IsSettled q paths k
+
+-- no instance from this number on has to be visited again
+abbrev pub AreDone : List Bool → ℕ → Type 0
+AreDone due number = (k : ℕ) → number ≤ k → k < length due → slice_get due k ≡ Some false
+
+-- these have to be visited too
+pub record AreCalledDue (callees : List ℕ) (due due' : List Bool) : Type 0 where
+  pub count : length due' ≡ length due
+  pub before : (k : ℕ) → slice_get due' k ≡ Some false → slice_get due k ≡ Some false
+  pub uncalled : (k : ℕ) → slice_get due' k ≡ Some false → Contains callees k → ⊥
+
+-- behind a visit its caller has to be visited again, and where something was raised the instance and those that it calls
+pub record AreMarked (path : Path) (number : ℕ) (raised : Bool) (due due' : List Bool) : Type 0 where
+  pub count : length due' ≡ length due
+  pub here : slice_get due' number ≡ Some false → IsFalse raised
+  pub caller : slice_get due' path.caller ≡ Some false → ⊥
+  pub uncalled : (k : ℕ) → slice_get due' k ≡ Some false → IsTrue raised → Contains path.callees k → ⊥
+  pub before : (k : ℕ) → slice_get due' k ≡ Some false → (k ≡ number → ⊥) → slice_get due k ≡ Some false
+  pub done : IsFalse raised → slice_get due' number ≡ Some false
+  pub after : IsFalse raised → (k : ℕ) → number < k → slice_get due k ≡ Some false → slice_get due' k ≡ Some false

@@ -1,5 +1,5 @@
 -- The rows that are written for instances.
-use Rattle.std.specs.Prelude.{◌≡◌, ◌⊎◌, ◌↔◌, ℕ, zero, suc, ◌+◌, ◌-◌, ◌<◌, ◌≤◌, true, Some, List, [], ◌∷◌, ◌++◌, map, slice_get}
+use Rattle.std.specs.Prelude.{◌≡◌, ◌⊎◌, ◌↔◌, ℕ, zero, suc, ◌+◌, ◌-◌, ◌<◌, ◌≤◌, Bool, true, Some, List, [], ◌∷◌, ◌++◌, length, map, slice_get}
 use Rattle.std.specs.List.{Contains}
 use Rattle.vmv_tree.specs.declared.site.NamedSite.{NamedSite}
 use Rattle.vmv_tree.specs.Run.{name_of}
@@ -31,6 +31,15 @@ IsFlagged paths k proc index = (path : Path) × (slice_get paths k ≡ Some path
 -- it is flagged at instance j, or at one to which reached calls lead from there
 abbrev pub IsListed : List Path → ℕ → ℕ → ℕ → Type 0
 IsListed paths j proc index = (places : List ℕ) × (k : ℕ) × Leads paths j places k × IsFlagged paths k proc index
+
+-- the site is one of the procedure of this number, and flagged at the instance itself
+abbrev pub IsOwn : Path → ℕ → ℕ → Type 0
+IsOwn path proc index = (path.proc.0 ≡ proc) × (1 ≤ index) × (slice_get path.unproved (index - 1) ≡ Some true)
+
+-- marked are those that were, and those of which this holds
+pub record AreMarkedBy (P : ℕ → Type 0) (old new : List Bool) : Type 0 where
+  pub count : length new ≡ length old
+  pub each : (i : ℕ) → i < length old → (slice_get new i ≡ Some true) ↔ ((slice_get old i ≡ Some true) ⊎ P i)
 
 -- Bottom where nothing is in the range
 abbrev pub IsReachOf : Cond → Reach → Type 0

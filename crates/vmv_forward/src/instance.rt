@@ -29,11 +29,11 @@ impl Model for Instance {
 
 impl Instance {
     /// The input that is stored for the call of this place.
-    pub(crate) fn input(&self, place: usize) -> Zone
+    pub(crate) fn input(&self, place: usize) -> &Zone
         requires { place < length self.now.inputs }
-        ensures { slice_get self.now.inputs place ≡ Some result }
+        ensures { slice_get self.now.inputs place ≡ Some result.now }
     {
-        self.inputs[place]
+        &self.inputs[place]
     }
 
     /// The result that is stored for the call of this place.

@@ -1,4 +1,5 @@
 ghost use Rattle.std.specs.Prelude.{◌≡◌, ◌<◌, ◌≤◌, ◌+◌, ◌≢◌, ℕ, Some, length, slice_get, IsTrue, IsFalse};
+ghost use Rattle.std.specs.List.{All};
 ghost use Rattle.vmv_tree.specs.Tree.{Item};
 ghost use Rattle.vmv_snapshot.specs.declared.code.Code.{Code};
 ghost use Rattle.vmv_snapshot.specs.Procs.{params_of};
@@ -7,7 +8,7 @@ ghost use Rattle.vmv_zone.specs.Zone.{vars_of};
 ghost use Rattle.vmv_pass.specs.Upper.{IsProc, AreScale, Fits};
 ghost use Rattle.vmv_forward.specs.Path.{Path};
 ghost use Rattle.vmv_forward.specs.Paths.{loops_of};
-ghost use Rattle.vmv_forward.specs.Rounds.{quest_of, stored_of, AreKept, HasInput, HasResult, IsSettled, IsPassed, IsVisited, HaveFew, all_rooms, all_ranks};
+ghost use Rattle.vmv_forward.specs.Rounds.{quest_of, stored_of, AreKept, HasInput, HasResult, IsSettled, IsPassed, IsVisited, AreDue, AreDone, AreCalledDue, AreMarked, HaveFew, all_rooms, all_ranks};
 
 use crate::instance::Instance;
 use std::sync::ledger::Ledger;
@@ -36,7 +37,7 @@ pub(crate) fn input_of(search: &Search<'_>, instances: &[Instance], number: usiz
 {
     let instance = &instances[number];
     let caller = instance.caller;
-    instances[caller].input(instance.place)
+    *instances[caller].input(instance.place)
 }
 
 /// The result that is stored for an instance, with its caller.
@@ -97,18 +98,50 @@ fn visit<L: Ledger>(
     let instance = &instances[number];
     let caller = instance.caller;
     let place = instance.place;
-    let input = instances[caller].input(place);
+    let input = *instances[caller].input(place);
     let passed = pass(search, &mut instances[number], &input, steps);
     instances[caller].set_result(place, passed.range);
     passed.raised
 }
 
-/// Visits each instance once, those that are called before their callers. Answers whether something that is stored was
-/// raised.
-fn round<L: Ledger>(search: &Search<'_>, instances: &mut [Instance], steps: &mut Steps<L>) -> bool
-    requires { AreKept (quest_of search.now) instances.old }
+/// These have to be visited.
+fn mark_called(callees: &[usize], due: &mut [bool])
+    requires { All (λ k. k < length due.old) callees.now }
+    ensures { AreCalledDue callees.now due.old due.new }
+{
+    for callee in callees {
+        due[*callee] = true;
+    }
+}
+
+/// Marks the instances that have to be visited behind a visit of this one: its caller, and, where something was raised, the
+/// instance itself and those that it calls.
+fn mark(instance: &Instance, number: usize, raised: bool, due: &mut [bool])
+    requires inside { number < length due.old }
+    requires caller { instance.now.caller < number }
+    requires callees { All (λ k. k < length due.old) instance.now.callees }
+    ensures { AreMarked instance.now number raised due.old due.new }
+{
+    due[number] = raised;
+    due[instance.caller] = true;
+    if raised {
+        mark_called(instance.callees.as_slice(), due);
+    }
+}
+
+/// Visits those of the instances that have to be visited, those that are called before their callers. Answers whether
+/// something that is stored was raised.
+fn round<L: Ledger>(
+    search: &Search<'_>,
+    instances: &mut [Instance],
+    due: &mut [bool],
+    steps: &mut Steps<L>,
+) -> bool
+    requires kept { AreKept (quest_of search.now) instances.old }
+    requires due { AreDue (quest_of search.now) instances.old due.old }
     ensures kept { AreKept (quest_of search.now) instances.new }
-    ensures settled { IsFalse result → (j : ℕ) → 1 ≤ j → IsSettled (quest_of search.now) instances.new j }
+    ensures due { AreDue (quest_of search.now) instances.new due.new }
+    ensures done { IsFalse result → AreDone due.new 1 }
     ensures falls { IsTrue result → all_rooms instances.new < all_rooms instances.old }
     ensures stays { IsFalse result → all_rooms instances.new ≡ all_rooms instances.old }
     ensures few { HaveFew instances.old → HaveFew instances.new }
@@ -119,20 +152,27 @@ fn round<L: Ledger>(search: &Search<'_>, instances: &mut [Instance], steps: &mut
     let mut number = instances.len();
     while number > 1 {
         number -= 1;
-        if visit(search, instances, number, steps) {
-            raised = true;
+        if due[number] {
+            let rises = visit(search, instances, number, steps);
+            mark(&instances[number], number, rises, due);
+            if rises {
+                raised = true;
+            }
         }
     }
     raised
 }
 
-/// Raises what is stored until the walks of all instances hold.
+/// Raises what is stored until the walks of all instances hold. An instance is visited where it isn't known to be settled:
+/// at first each.
 pub(crate) fn settle<L: Ledger>(
     search: &Search<'_>,
     instances: &mut [Instance],
+    due: &mut [bool],
     steps: &mut Steps<L>,
 )
-    requires { AreKept (quest_of search.now) instances.old }
+    requires kept { AreKept (quest_of search.now) instances.old }
+    requires due { AreDue (quest_of search.now) instances.old due.old }
     ensures kept { AreKept (quest_of search.now) instances.new }
     ensures settled { (j : ℕ) → 1 ≤ j → IsSettled (quest_of search.now) instances.new j }
     ensures few { HaveFew instances.old → HaveFew instances.new }
@@ -141,6 +181,6 @@ pub(crate) fn settle<L: Ledger>(
 {
     let mut raised = true;
     while raised {
-        raised = round(search, instances, steps);
+        raised = round(search, instances, due, steps);
     }
 }

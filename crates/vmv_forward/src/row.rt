@@ -6,7 +6,7 @@ ghost use Rattle.vmv_snapshot.specs.Tables.{body_sites};
 ghost use Rattle.vmv_zone.specs.Zone.{NotBottom};
 ghost use Rattle.vmv_cert.specs.Tables.{IsSiteOf, AreSitesOf};
 ghost use Rattle.vmv_forward.specs.Paths.{IsGrown};
-ghost use Rattle.vmv_forward.specs.Rows.{IsFlagged, IsListed, IsReachOf, IsRowOf, IsReached, AreListedSites, AddsSites};
+ghost use Rattle.vmv_forward.specs.Rows.{IsFlagged, IsListed, IsReachOf, IsRowOf, IsReached, AreListedSites, AddsSites, IsOwn, AreMarkedBy};
 ghost use Rattle.vmv_forward.specs.Rounds.{quest_of, AreKept, HasInput, HasResult};
 
 use crate::instance::Instance;
@@ -30,27 +30,46 @@ fn is_flagged(instance: &Instance, site: SiteId) -> bool
     }
 }
 
-/// Whether the site is flagged at the instance, or at one to which reached calls lead from there.
-fn is_listed(search: &Search<'_>, instances: &[Instance], number: usize, site: SiteId) -> bool
+/// Marks the sites of the procedure that are flagged at the instance itself.
+fn mark_own(instance: &Instance, proc: ProcId, count: u32, marks: &mut [bool])
+    requires { length marks.old ≡ count }
+    ensures { AreMarkedBy (λ i. IsOwn instance.now proc.0 (i + 1)) marks.old marks.new }
+{
+    for before in 0..count {
+        let index = before + 1;
+        if is_flagged(instance, SiteId { proc, index }) {
+            marks[before as usize] = true;
+        }
+    }
+}
+
+/// Marks the sites of the procedure that are flagged at the instance, or at one to which reached calls lead from there.
+fn mark_listed(
+    search: &Search<'_>,
+    instances: &[Instance],
+    number: usize,
+    proc: ProcId,
+    count: u32,
+    marks: &mut [bool],
+)
     requires from { 1 ≤ number }
     requires to { number < length instances.now }
     requires kept { AreKept (quest_of search.now) instances.now }
-    ensures { IsTrue result ↔ IsListed instances.now number site.proc.0 site.index }
+    requires count { length marks.old ≡ count }
+    ensures { AreMarkedBy (λ i. IsListed instances.now number proc.0 (i + 1)) marks.old marks.new }
 {
     let instance = &instances[number];
-    if is_flagged(instance, site) {
-        return true;
-    }
+    mark_own(instance, proc, count, marks);
     for (c, callee) in instance.callees.iter().enumerate() {
-        if !instance.input(c).is_bottom() && is_listed(search, instances, *callee, site) {
-            return true;
+        if !instance.input(c).is_bottom() {
+            mark_listed(search, instances, *callee, proc, count, marks);
         }
     }
-    false
 }
 
 /// The sites of the procedure that the instance's procedure reaches and that are listed, added in order.
 fn add_sites(
+    alloc: Global,
     search: &Search<'_>,
     instances: &[Instance],
     number: usize,
@@ -64,9 +83,13 @@ fn add_sites(
     ensures { OnOk result (AddsSites search.now.snapshot.now instances.now number proc.0 sites.old.items sites.new.items) }
 {
     let name = search.snapshot.proc_name(proc);
-    for before in 0..search.snapshot.site_count(proc) {
+    let count = search.snapshot.site_count(proc);
+    let mut marks = vec![in alloc; false; count as usize]?;
+    mark_listed(search, instances, number, proc, count, marks.as_mut_slice());
+    let marked = marks.as_slice();
+    for before in 0..count {
         let index = before + 1;
-        if is_listed(search, instances, number, SiteId { proc, index }) {
+        if marked[before as usize] {
             sites.push(NamedSite { proc: name, index })?;
         }
     }
@@ -91,7 +114,7 @@ fn sites_of(
     for p in 0..search.snapshot.proc_count() {
         let proc = ProcId(p);
         if search.snapshot.reaches(from, proc) {
-            add_sites(search, instances, number, proc, &mut sites)?;
+            add_sites(alloc, search, instances, number, proc, &mut sites)?;
         }
     }
     Ok(sites)

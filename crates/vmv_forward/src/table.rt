@@ -60,6 +60,7 @@ pub fn least<L: Ledger>(
     let _program = snapshot.program();
     let input = box_state(within).norm();
     let mut found = instances_of(alloc, snapshot, entry, &input)?;
+    let mut due = vec![in alloc; true; found.len()]?;
     let search = Search {
         snapshot,
         entry,
@@ -67,6 +68,6 @@ pub fn least<L: Ledger>(
         assumed,
         thresholds: thresholds.as_slice(),
     };
-    settle(&search, found.as_mut_slice(), steps);
+    settle(&search, found.as_mut_slice(), due.as_mut_slice(), steps);
     table_of(alloc, &search, found.as_slice())
 }

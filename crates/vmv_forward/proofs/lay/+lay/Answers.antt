@@ -39,9 +39,9 @@ lay-requires t c =
     let at = read c.args.instances.now c.args.number path c.requires.to c.index-instances-number.is in
     let items = c.deref-callee-items.ensures.value ∙ ap (λ (p : Path). p.callees) c.instance.view_is in
     let n = next_of (quest_of c.args.search.now) c.args.instances.now c.args.number path c.deref-callee-items.result.now c.loop-c.c c.requires.kept c.requires.from at items c.loop-c-test.true in
-    let up = untrue c.is_bottom.result c.input.result.bottom c.if-not-is_bottom.true c.is_bottom.ensures.1 in (
+    let up = untrue c.is_bottom.result c.input.result.now.bottom c.if-not-is_bottom.true c.is_bottom.ensures.1 in (
       down_below (length c.args.instances.now) c.args.number (get_or c.deref-callee-items.result.now c.loop-c.c 0) t n.later n.inside c.decreases,
-      (n.one, (n.inside, (c.requires.kept, (n.to, c.input.result, n.there, next_input c.args.instances.now c.args.number path c.loop-c.c c.input.result n.to at n.caller_is n.place_is c.input.ensures, up)))),
+      (n.one, (n.inside, (c.requires.kept, (n.to, c.input.result.now, n.there, next_input c.args.instances.now c.args.number path c.loop-c.c c.input.result.now n.to at n.caller_is n.place_is c.input.ensures, up)))),
     )
 
 pub loop-c-preserved : goal.loop-c-preserved
@@ -52,12 +52,12 @@ loop-c-preserved t c =
     let n = next_of (quest_of c.args.search.now) c.args.instances.now c.args.number path c.deref-callee-items.result.now c.loop-c.c c.requires.kept c.requires.from at items c.loop-c-test.true in
     elim c.if-not-is_bottom.branch [
       | then-not-is_bottom+in_ok-lay w ↦
-          (let up = untrue c.is_bottom.result c.input.result.bottom w.if-not-is_bottom.true c.is_bottom.ensures.1 in
+          (let up = untrue c.is_bottom.result c.input.result.now.bottom w.if-not-is_bottom.true c.is_bottom.ensures.1 in
           subst (λ (v : Vec Row Global). Laying c.args.search.now.snapshot.now c.args.instances.now c.args.number path (c.loop-c.c + 1) c.push.new.self.items v.items) (sym w.rows-is)
-          (laying_more c.args.search.now.snapshot.now c.args.instances.now c.args.number path c.loop-c.c c.push.new.self.items c.loop-c.rows.items w.lay.new.rows.items (get_or c.deref-callee-items.result.now c.loop-c.c 0) c.input.result n.to c.loop-c.invariant at n.is
+          (laying_more c.args.search.now.snapshot.now c.args.instances.now c.args.number path c.loop-c.c c.push.new.self.items c.loop-c.rows.items w.lay.new.rows.items (get_or c.deref-callee-items.result.now c.loop-c.c 0) c.input.result.now n.to c.loop-c.invariant at n.is
           c.input.ensures n.later n.there n.caller_is n.place_is up w.in_ok-lay.ensures))
       | else-not-is_bottom w ↦
-          laying_skip c.args.search.now.snapshot.now c.args.instances.now c.args.number path c.loop-c.c c.push.new.self.items c.loop-c.rows.items c.if-not-is_bottom.rows.items (get_or c.deref-callee-items.result.now c.loop-c.c 0) c.input.result c.loop-c.invariant n.is
+          laying_skip c.args.search.now.snapshot.now c.args.instances.now c.args.number path c.loop-c.c c.push.new.self.items c.loop-c.rows.items c.if-not-is_bottom.rows.items (get_or c.deref-callee-items.result.now c.loop-c.c 0) c.input.result.now c.loop-c.invariant n.is
           c.input.ensures (c.is_bottom.ensures.0 w.if-not-is_bottom.false) (ap (λ (v : Vec Row Global). v.items) w.rows-is)
     ]
 

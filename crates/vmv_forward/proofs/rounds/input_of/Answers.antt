@@ -31,4 +31,4 @@ returns c =
     let r = reads_view q c.args.instances.now c.args.number c.index-instances-number.result c.requires.kept c.requires.from c.requires.to c.index-instances-number.is (the_view c.instance.inside) (c.instance.view_is ∙ c.index-instances-number.is) in
     let there = read_caller q c.args.instances.now c.args.number (the_view c.instance.inside) c.index-instances-caller.result r c.index-instances-caller.is in
     λ path at. (let same : the_view c.instance.inside ≡ path = some_same (sym r.at ∙ at) in
-    subst (λ (p : Path). HasInput c.args.instances.now p c.input.result) same (c.index-instances-caller.result, there, c.input.ensures))
+    subst (λ (p : Path). HasInput c.args.instances.now p c.input.result.now) same (c.index-instances-caller.result, there, c.input.ensures))

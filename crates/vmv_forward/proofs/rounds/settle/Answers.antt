@@ -1,9 +1,9 @@
-use Rattle.vmv_forward.specs.Rounds.{all_rooms}
-use Rattle.vmv_forward.proofs.Turning.{lower}
+use Rattle.vmv_forward.specs.Rounds.{all_rooms, quest_of}
+use Rattle.vmv_forward.proofs.Turning.{lower, all_settled}
 use Rattle.vmv_forward.proofs.rounds.settle.Goals as goal
 
 pub loop-raised-smaller : goal.loop-raised-smaller
 loop-raised-smaller g c = lower c.loop-raised.raised c.round-raised.result (all_rooms c.round-raised.new.instances) (all_rooms c.loop-raised.instances) c.loop-raised-test.true c.round-raised.ensures.falls c.round-raised.ensures.stays
 
 pub returns-clause-settled : goal.returns-clause-settled
-returns-clause-settled g c = c.loop-raised.invariant.settled c.loop-raised-test.false
+returns-clause-settled g c = all_settled (quest_of c.args.search.now) c.loop-raised.instances c.loop-raised.due c.loop-raised.invariant.due (c.loop-raised.invariant.done c.loop-raised-test.false)

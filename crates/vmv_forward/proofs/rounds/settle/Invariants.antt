@@ -1,12 +1,13 @@
-use Rattle.std.proofs.Common.{◌≡◌, ◌≤◌, ◌+◌, ◌*◌, ℕ, cond, IsFalse}
-use Rattle.vmv_forward.specs.Rounds.{quest_of, AreKept, IsSettled, all_rooms, all_ranks, HaveFew}
+use Rattle.std.proofs.Common.{◌≡◌, ◌≤◌, ◌+◌, ◌*◌, cond, IsFalse}
+use Rattle.vmv_forward.specs.Rounds.{quest_of, AreKept, AreDue, AreDone, all_rooms, all_ranks, HaveFew}
 use Rattle.vmv_forward.specs.Paths.{loops_of}
 use Rattle.vmv_forward.proofs.rounds.settle.Given as goal
 
 abbrev pub invariant-loop-raised : goal.invariant-loop-raised
 invariant-loop-raised g l = record {
   kept : AreKept (quest_of l.search) l.instances;
-  settled : IsFalse l.raised → (j : ℕ) → 1 ≤ j → IsSettled (quest_of l.search) l.instances j;
+  due : AreDue (quest_of l.search) l.instances l.due;
+  done : IsFalse l.raised → AreDone l.due 1;
   few : HaveFew l.initial.instances → HaveFew l.instances;
   loops : loops_of l.instances ≡ loops_of l.initial.instances;
   cost : l.steps + all_ranks l.search.thresholds.now l.initial.instances ≤ l.initial.steps + all_ranks l.search.thresholds.now l.instances;

@@ -1,3 +1,4 @@
+use Rattle.vmv_forward.proofs.Marking.{all_due}
 use Rattle.std.proofs.Common.{◌≡◌, ◌≤◌, ◌+◌, ◌*◌, ℕ, ℤ, List, [], length, sym, subst, ◌∙◌}
 use Rattle.std.proofs.lemmas.List.{with_items_is}
 use Rattle.vmv_tree.specs.declared.ends.NameEnds.{NameEnds}
@@ -33,8 +34,8 @@ instances_of-requires g c =
     let at = c.requires.entry.1.2 in
     within (procs (tree_of c.args.snapshot.now)) c.args.entry.0 _ at
 
-pub settle-requires : goal.settle-requires
-settle-requires g c =
+pub settle-requires-clause-kept : goal.settle-requires-clause-kept
+settle-requires-clause-kept g c =
     let program = c.args.snapshot.now in
     let q : Quest = record { program = program; entry = c.args.entry.0; input = c.norm-input.result; assumed = cond_of c.args.assumed.now; thresholds = c.as_slice.result.now } in
     let few = box_few program c.args.entry.0 c.requires.entry.0 c.args.within.now c.requires.entry.1 c.requires.entry.2 c.program-program.ensures.resolution in
@@ -42,6 +43,11 @@ settle-requires g c =
     let start = subst (λ (l : List Path). IsStart program c.args.entry.0 c.norm-input.result l) (sym c.as_mut_slice.ensures.value) c.in_ok-found.ensures in
     let are = subst (λ (l : List ℤ). AreThresholds (tree_of program) c.args.entry.0 c.requires.thresholds.0 l) (sym c.as_slice.ensures) c.requires.thresholds.1 in
     start_kept q c.as_mut_slice.result.now c.program-program.ensures.resolution (scale_of (tree_of program) c.args.entry.0 c.requires.thresholds.0 c.as_slice.result.now are) start over c.norm-input.ensures.normal
+
+pub settle-requires-clause-due : goal.settle-requires-clause-due
+settle-requires-clause-due g c =
+    let q : Quest = record { program = c.args.snapshot.now; entry = c.args.entry.0; input = c.norm-input.result; assumed = cond_of c.args.assumed.now; thresholds = c.as_slice.result.now } in
+    all_due q c.as_mut_slice.result.now c.len.result c.in_ok-due.due.items c.as_mut_slice-2.result.now (c.len.ensures ∙ sym c.as_mut_slice.ensures.len) (c.in_ok-due.ensures.items_if_clones_equal (λ y e. e)) c.as_mut_slice-2.ensures.value
 
 pub table_of-requires-clause-reached : goal.table_of-requires-clause-reached
 table_of-requires-clause-reached g c =
