@@ -1,55 +1,48 @@
-//! A store that says how full it is, and notes its calls.
-
 ghost use Rattle.std.specs.Prelude.{None};
 ghost use Rattle.vmv_edge.specs.Calls.{failed_calls};
 ghost use Rattle.vmv_keeper.specs.Forms.{calls};
 
-use std::alloc::{AllocError, Global};
-use vmv_desk::{Benches, Change, Held, KeepFault, Keeper, Kept, Label, Submitted};
+use std::alloc::Global;
+use vmv_cases::Sheet;
 use vmv_edge::Text;
-use vmv_keeper::MemoryKeeper;
+use vmv_keeper::{Benches, Change, Held, KeepFault, Keeper, Kept, Label, MemoryKeeper, Submitted};
 
-/// Calls that were made, each as its name and its arguments with a `;` behind it. A change is noted by its caller and
-/// its id, and a number by its last digit.
+/// A store that tells nothing of its rows, notes its calls, a line for each, and says of each caller that at least so many
+/// replies are kept for him, and of each project that its next submission has at least this number, both within the
+/// limits. The rest it has of a store in memory, to which it adds what fits there.
 #[derive(Drop)]
-pub(crate) struct Log {
-    pub(crate) bytes: Vec<u8>,
+pub struct NotingKeeper {
+    pub keeper: MemoryKeeper,
+    pub replies: u32,
+    pub next: u32,
+    pub log: Sheet,
 }
 
-fn digit(number: u32) -> [u8; 1] {
-    [b'0' + (number % 10) as u8]
+/// Notes a call with two labels.
+fn note(log: &mut Sheet, name: &[u8], first: &Label, second: &Label) {
+    log.put(name);
+    log.put(b" ");
+    log.put(first.bytes());
+    log.put(b" ");
+    log.line(second.bytes());
 }
 
-impl Log {
-    fn note(&mut self, name: &str, words: &[&[u8]]) -> Result<(), AllocError> {
-        self.bytes.extend_from_slice(name.as_bytes())?;
-        for word in words {
-            self.bytes.push(b' ')?;
-            self.bytes.extend_from_slice(*word)?;
-        }
-        self.bytes.push(b';')?;
-        Ok(())
-    }
+/// Notes a call with two labels and a number.
+fn note_number(log: &mut Sheet, name: &[u8], owner: &Label, project: &Label, number: u32) {
+    note(log, name, owner, project);
+    log.join_line();
+    log.put(b" ");
+    log.show(&number);
+    log.line(b"");
 }
 
-/// A store that tells nothing of its rows, notes its calls, and says of each caller that at least so many replies are
-/// kept for him, and of each project that its next submission has at least this number, both within the limits. The
-/// rest it has of a store in memory, to which it adds what fits there.
-#[derive(Drop)]
-pub(crate) struct FullStore {
-    pub(crate) keeper: MemoryKeeper,
-    pub(crate) replies: u32,
-    pub(crate) next: u32,
-    pub(crate) log: Log,
-}
-
-impl Keeper for FullStore {
+impl Keeper for NotingKeeper {
     ghost told = { λ _. None };
 
     ghost fault_count = { λ store. failed_calls (calls store.keeper) };
 
     fn projects(&mut self, alloc: Global) -> Result<Benches, KeepFault> {
-        self.log.note("projects", &[])?;
+        self.log.line(b"projects");
         self.keeper.projects(alloc)
     }
 
@@ -59,7 +52,7 @@ impl Keeper for FullStore {
         owner: &Label,
         project: &Label,
     ) -> Result<Option<Held>, KeepFault> {
-        self.log.note("load", &[owner.bytes(), project.bytes()])?;
+        note(&mut self.log, b"load", owner, project);
         let Some(held) = self.keeper.load(alloc, owner, project)? else {
             return Ok(None);
         };
@@ -77,9 +70,7 @@ impl Keeper for FullStore {
         project: &Label,
         version: u32,
     ) -> Result<Option<Text>, KeepFault> {
-        let number = digit(version);
-        self.log
-            .note("text", &[owner.bytes(), project.bytes(), &number])?;
+        note_number(&mut self.log, b"text", owner, project, version);
         self.keeper.text(alloc, owner, project, version)
     }
 
@@ -90,9 +81,7 @@ impl Keeper for FullStore {
         project: &Label,
         number: u32,
     ) -> Result<Option<Submitted>, KeepFault> {
-        let last = digit(number);
-        self.log
-            .note("submission", &[owner.bytes(), project.bytes(), &last])?;
+        note_number(&mut self.log, b"submission", owner, project, number);
         self.keeper.submission(alloc, owner, project, number)
     }
 
@@ -102,22 +91,23 @@ impl Keeper for FullStore {
         caller: &Label,
         id: &Label,
     ) -> Result<Option<Kept>, KeepFault> {
-        self.log.note("reply_of", &[caller.bytes(), id.bytes()])?;
+        note(&mut self.log, b"reply_of", caller, id);
         self.keeper.reply_of(alloc, caller, id)
     }
 
     fn replies(&mut self, alloc: Global, caller: &Label) -> Result<u32, KeepFault> {
-        self.log.note("replies", &[caller.bytes()])?;
+        self.log.put(b"replies ");
+        self.log.line(caller.bytes());
         let kept = self.keeper.replies(alloc, caller)?;
         Ok(self.replies.min(100_000).max(kept))
     }
 
     fn commit(&mut self, alloc: Global, change: &Change) -> Result<(), KeepFault> {
-        self.log
-            .note("commit", &[change.caller.bytes(), change.id.bytes()])?;
+        note(&mut self.log, b"commit", &change.caller, &change.id);
         if self.keeper.fits(change) {
             self.keeper.commit(alloc, change)
         } else {
+            self.log.line(b"that doesn't fit");
             Ok(())
         }
     }

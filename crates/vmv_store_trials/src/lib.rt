@@ -1,5 +1,0 @@
-//! Tests of stores of rows.
-#![tactic(auto)]
-
-#[cfg(test)]
-mod keeper;
