@@ -1,3 +1,4 @@
 pub mod Adding
 pub mod Whole
 pub mod Inside
+pub mod Naming

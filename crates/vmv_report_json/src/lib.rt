@@ -3,7 +3,9 @@
 
 mod conditions;
 mod json;
+mod laws;
 mod rows;
 mod strings;
 
 pub use json::json_of;
+pub use laws::names_are_their_strings;
