@@ -2,3 +2,4 @@ pub mod Adding
 pub mod Whole
 pub mod Inside
 pub mod Naming
+pub mod Spelling

@@ -33,7 +33,7 @@ all_ascii (b ∷ bs) h =
     let parts = and_parts (is_name_byte b) (list_all is_name_byte bs) h in
     All-cons (λ b. b < 128) b bs (below_by b (leb 128 b) refl parts.0) (all_ascii bs parts.1)
 
-name_utf8 : (x : Name) → IsTrue (is_name x) → IsUtf8 x
+pub name_utf8 : (x : Name) → IsTrue (is_name x) → IsUtf8 x
 name_utf8 x h =
     let size = and_parts (nat_le (length x) 64) _ h in
     let first = and_parts (first_is_letter x) _ size.1 in

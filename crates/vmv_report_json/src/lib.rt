@@ -8,4 +8,4 @@ mod rows;
 mod strings;
 
 pub use json::json_of;
-pub use laws::names_are_their_strings;
+pub use laws::{names_are_their_strings, witnesses_are_their_texts};
