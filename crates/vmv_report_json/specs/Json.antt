@@ -1,5 +1,5 @@
 -- The JSON of a report.
-use Rattle.std.specs.Prelude.{◌==◌, ℕ, Option, Some, None, List, [], ◌∷◌, map, codes, if◌then◌else◌}
+use Rattle.std.specs.Prelude.{ℕ, Option, Some, None, List, [], ◌∷◌, map, codes, if◌then◌else◌}
 use Rattle.std.specs.List.{flat_map}
 use Rattle.std.specs.Str.Lossy.{utf8_lossy}
 use Rattle.serde_json.specs.Data.{Data, null, boolean, number, string, array, object, unsigned, member, no_members}
@@ -57,12 +57,6 @@ witness_data w = string_of (witness_text w)
 abbrev pub count_data : Class → List ReportRow → Data
 count_data class rows = number (unsigned (class_count class rows))
 
--- the verdict, as the report's text has it
-abbrev pub verdict_word : ℕ → List ℕ
-verdict_word verdict =
-    if verdict == 1 then codes "relatively correct"
-    else (if verdict == 2 then codes "alarms" else (if verdict == 3 then codes "regression" else codes "vacuous"))
-
 -- the report of a review of this revision
 abbrev pub report_data : Report → Resolution → Data
 report_data report revision =
@@ -73,7 +67,7 @@ report_data report revision =
     (member (codes "regression") (count_data Regression report.rows)
     (member (codes "rows") (array (items_of (flat_map (told_row revision) report.rows)))
     (member (codes "sufficient") (conditions_data report.enough)
-    (member (codes "verdict") (string (verdict_word report.verdict))
+    (member (codes "verdict") (number (unsigned report.verdict))
     (member (codes "witnesses") (array (items_of (map witness_data report.witnesses))) no_members)))))))))
 
 -- its text, with no space and the keys in the order of their bytes

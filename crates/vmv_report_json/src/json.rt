@@ -3,7 +3,7 @@ ghost use Rattle.serde_json.specs.View.{view};
 ghost use Rattle.serde_json.specs.Written.{has_float, compact_text};
 ghost use Rattle.vmv_report.specs.Reports.{IsReport};
 ghost use Rattle.vmv_report.specs.Work.{AreInside};
-ghost use Rattle.vmv_report_json.specs.Json.{verdict_word, report_data, report_json};
+ghost use Rattle.vmv_report_json.specs.Json.{report_data, report_json};
 
 use crate::conditions::conditions_value;
 use crate::rows::{rows_value, witnesses_value};
@@ -12,18 +12,6 @@ use std::alloc::{AllocError, Global};
 use vmv_edge::Text;
 use vmv_report::{Class, Report, class_count};
 use vmv_snapshot::Snapshot;
-
-/// How a verdict is called.
-fn verdict_word(verdict: u8) -> &'static str
-    ensures { result.now ≡ verdict_word verdict }
-{
-    match verdict {
-        1 => "relatively correct",
-        2 => "alarms",
-        3 => "regression",
-        _ => "vacuous",
-    }
-}
 
 /// The value of a report.
 fn report_value(alloc: Global, report: &Report, revision: &Snapshot) -> Result<Value, AllocError>
@@ -39,7 +27,7 @@ fn report_value(alloc: Global, report: &Report, revision: &Snapshot) -> Result<V
     let sufficient = conditions_value(alloc, &report.enough)?;
     let told = rows_value(alloc, revision, rows)?;
     let witnesses = witnesses_value(alloc, report.witnesses.as_slice())?;
-    let verdict = verdict_word(report.verdict);
+    let verdict = report.verdict;
     json!(in alloc; {
         "alarm": alarm,
         "clean": clean,
