@@ -16,14 +16,14 @@ pub(crate) fn range_text(alloc: Global, lo: i64, hi: i64) -> Result<String, Allo
 }
 
 /// Whether every word meets the condition.
-fn is_whole(cond: Cond) -> bool
+pub fn is_whole(cond: Cond) -> bool
     ensures { result ≡ is_whole cond }
 {
     cond.lo() == i64::MIN && cond.hi() == i64::MAX && !cond.zero_out()
 }
 
 /// Whether 0 stands inside the condition's range and is left out.
-fn is_zero_left_out(cond: Cond) -> bool
+pub fn is_zero_left_out(cond: Cond) -> bool
     ensures { result ≡ is_zero_left_out cond }
 {
     cond.zero_out() && cond.lo() < 0 && 0 < cond.hi()

@@ -16,6 +16,7 @@ mod texts;
 mod told;
 
 pub use class::Class;
+pub use conds::{is_whole, is_zero_left_out};
 pub use finding::baseline;
 pub use judging::judge;
 pub use kept::Baseline;
@@ -25,4 +26,5 @@ pub use laws::{
 };
 pub use report::{Report, Witnesses};
 pub use row::{ReportRow, ReportRows};
+pub use row_texts::{class_count, class_word, is_class};
 pub use texts::text_of;

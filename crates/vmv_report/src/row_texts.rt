@@ -26,7 +26,7 @@ pub(crate) fn verdict_line(verdict: u8) -> &'static [u8]
 }
 
 /// Whether it is this class.
-pub(crate) fn is_class(one: Class, other: Class) -> bool
+pub fn is_class(one: Class, other: Class) -> bool
     ensures { result ≡ is_class one other }
 {
     match (one, other) {
@@ -39,7 +39,7 @@ pub(crate) fn is_class(one: Class, other: Class) -> bool
 }
 
 /// How many rows have this class.
-pub(crate) fn class_count(class: Class, rows: &[ReportRow]) -> usize
+pub fn class_count(class: Class, rows: &[ReportRow]) -> usize
     ensures { result ≡ class_count class rows.now }
 {
     rows.iter().filter(|row| is_class(class, row.class)).count()
@@ -57,7 +57,7 @@ fn counts_line(alloc: Global, rows: &[ReportRow]) -> Result<String, AllocError>
 }
 
 /// How a class is called.
-fn class_word(class: Class) -> &'static [u8]
+pub fn class_word(class: Class) -> &'static [u8]
     ensures { result.now ≡ class_word class }
 {
     match class {

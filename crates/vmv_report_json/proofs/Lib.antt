@@ -1,0 +1,5 @@
+pub mod Adding
+pub mod Whole
+pub mod Inside
+pub mod Naming
+pub mod Spelling
