@@ -1,5 +1,5 @@
 -- A state with one variable more tells the same of the others, so a value is given the same in both.
-use Rattle.std.proofs.Common.{◌∙◌, ◌≡◌, ◌≢◌, ℕ, ◌+◌, ◌-◌, ◌^◌, ◌≤◌, ℤ, pos, ◌+ℤ◌, ◌-ℤ◌, ◌≤ℤ◌, ◌<ℤ◌, neg_ℤ, Bool, true, false, IsTrue, IsFalse, List, unsigned_abs, max, arith, rules, refl, sym, subst, ⊎_elim, inl, inr}
+use Rattle.std.proofs.Common.{◌∙◌, ◌≡◌, ℕ, ◌+◌, ◌≤◌, ℤ, pos, ◌+ℤ◌, ◌-ℤ◌, ◌≤ℤ◌, ◌<ℤ◌, neg_ℤ, Bool, true, false, IsTrue, IsFalse, List, unsigned_abs, max, arith, rules, refl, sym, subst, ⊎_elim, inl, inr}
 use Rattle.std.specs.Int.{int_min, int_max}
 use Rattle.std.proofs.lemmas.Int.{ints}
 use Rattle.vmv_zone.specs.declared.zone.Zone.{Zone}
@@ -9,8 +9,8 @@ use Rattle.vmv_zone.specs.declared.operand.ZoneOp.{ZoneOp}
 use Rattle.vmv_zone.specs.declared.operand.ZoneOp.TheVariants.{Add, Sub, Mul, Div, Rem}
 use Rattle.vmv_zone.specs.declared.operand.ZoneValue.{ZoneValue}
 use Rattle.vmv_zone.specs.declared.operand.ZoneValue.TheVariants.{Copy, Arith, Within}
-use Rattle.vmv_zone.specs.Bounds.{bound_at, IsMarkedIn, IsClosed, IsTight, ExcludesZero, IsTableBy, extended_bound}
-use Rattle.vmv_zone.specs.Zone.{bound_of, mark_of, IsNormal, HasNormalBounds, IsNormOf, IsGreatest}
+use Rattle.vmv_zone.specs.Bounds.{bound_at, IsMarkedIn, IsClosed, ExcludesZero, IsTableBy, extended_bound}
+use Rattle.vmv_zone.specs.Zone.{bound_of, mark_of, HasNormalBounds, IsNormOf}
 use Rattle.vmv_zone.specs.Operand.{thing, dif, up, low, IsOperand, IsSpan, IsNonzero}
 use Rattle.vmv_zone.specs.Ends.{IsEndProduct, IsEndQuotient}
 use Rattle.vmv_zone.specs.Confine.{Confines, Extends}
@@ -21,7 +21,7 @@ use Rattle.vmv_zone.proofs.Operands.{thing_inside}
 use Rattle.vmv_zone.proofs.Words.{bottom_bound, operand_more}
 use Rattle.vmv_zone.proofs.Values.{assigned_of}
 
-unmarked_same : (a b : Bool) → ¬ IsTrue a → ¬ IsTrue b → a ≡ b
+pub unmarked_same : (a b : Bool) → ¬ IsTrue a → ¬ IsTrue b → a ≡ b
 unmarked_same true b h k = absurd (h (search rules))
 unmarked_same false true h k = absurd (k (search rules))
 unmarked_same false false h k = refl

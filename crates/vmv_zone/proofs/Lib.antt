@@ -17,6 +17,7 @@ pub mod Hulls
 pub mod Words
 pub mod Values
 pub mod Extending
+pub mod Bottoms
 pub mod Reading
 pub mod PointStates
 pub mod Rounding

@@ -1,6 +1,8 @@
 -- Bounds raised to thresholds.
 use Rattle.std.proofs.Common.{◌∙◌, ◌≡◌, ◌≢◌, ◌^◌, ◌-◌, ℕ, ◌≤◌, ◌<◌, ℤ, pos, ◌≤ℤ◌, ◌<ℤ◌, List, length, get_or, IsTrue, IsFalse, arith, rules, ⊎_elim, sym, subst, refl}
+use Rattle.std.specs.Prelude.{int_lt, true, false}
 use Rattle.std.specs.List.{Contains}
+use Rattle.std.specs.List.Sorted.{IsPartitionedBy, IsPartitionPoint}
 use Rattle.std.proofs.lemmas.Int.{ints}
 use Rattle.std.proofs.lemmas.List.{get_or_default}
 use Rattle.std.proofs.lemmas.List.Elements.{Contains-get_or}
@@ -33,6 +35,29 @@ found_least ts b i below inside above sorted = record {
       (λ (after : i ≤ held.0). let order = sorted i held.0 (pos 0) after held.1 in omega (arith, ints))
       (cases_lt held.0 i);
 }
+
+lt_true : (a b : ℤ) → int_lt a b ≡ true → a <ℤ b
+lt_true a b h = grind (arith, ints)
+
+lt_false : (a b : ℤ) → int_lt a b ≡ false → b ≤ℤ a
+lt_false a b h = grind (arith, ints)
+
+lt_less : (a b n : ℤ) → a ≤ℤ b → int_lt b n ≡ true → int_lt a n ≡ true
+lt_less a b n order less = let l = lt_true b n less in grind (arith, ints)
+
+-- in order, the numbers less than b come first
+pub lesser_first : (ts : List ℤ) (b : ℤ) → AreSorted ts → IsPartitionedBy (λ t. int_lt t b) ts
+lesser_first ts b sorted i j d order inside less = lt_less _ _ b (sorted i j d order inside) less
+
+-- the first number after those less than b
+pub first_from : (ts : List ℤ) (b : ℤ) (n : ℕ) → IsPartitionPoint (λ t. int_lt t b ≡ true) (λ t. int_lt t b ≡ false) ts n → AreSorted ts → Contains ts (pos (2 ^ 64 - 1)) → b ≤ℤ pos (2 ^ 64 - 1) →
+    (n < length ts) × IsLeastFrom ts b (get_or ts n (pos 0))
+first_from ts b n point sorted most high =
+    let below : (k : ℕ) → k < n → get_or ts k (pos 0) <ℤ b = λ k h. lt_true _ b (point.0 k (pos 0) (omega arith) h) in
+    ⊎_elim
+    (λ (inside : n < length ts). (inside, found_least ts b n below inside (lt_false _ b (point.1 n (pos 0) (omega arith) inside)) sorted))
+    (λ (past : length ts ≤ n). absurd (none_left ts b n below past most high))
+    (cases_lt n (length ts))
 
 pub least_reach : (ts : List ℤ) (b t : ℤ) → IsInReach b → Contains ts (pos (2 ^ 64 - 1)) → IsLeastFrom ts b t → IsInReach t
 least_reach ts b t reach most least =

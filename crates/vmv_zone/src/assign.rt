@@ -47,6 +47,9 @@ impl Zone {
         requires value { IsOperandOf value (vars_of self.old) }
         ensures { IsAssigned self.old to value self.new }
     {
+        if self.bottom {
+            return;
+        }
         self.extend();
         let fresh = ZoneOperand::Var(self.vars);
         self.give(fresh, value);

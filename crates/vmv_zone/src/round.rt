@@ -83,10 +83,6 @@ fn least_from(bound: i128, thresholds: &[i128]) -> i128
     ensures least { IsLeastFrom thresholds.now bound result }
     ensures reach { IsInReach result }
 {
-    for threshold in thresholds {
-        if *threshold >= bound {
-            return *threshold;
-        }
-    }
-    bound
+    let place = thresholds.partition_point(|threshold| *threshold < bound);
+    thresholds[place]
 }
