@@ -29,15 +29,19 @@ pub(crate) struct Search<'a> {
 }
 
 /// The input that is stored for an instance, with its caller.
-pub(crate) fn input_of(search: &Search<'_>, instances: &[Instance], number: usize) -> Zone
+pub(crate) fn input_of<'a>(
+    search: &Search<'_>,
+    instances: &'a [Instance],
+    number: usize,
+) -> &'a Zone
     requires from { 1 ≤ number }
     requires to { number < length instances.now }
     requires kept { AreKept (quest_of search.now) instances.now }
-    ensures { (path : Path) → slice_get instances.now number ≡ Some path → HasInput instances.now path result }
+    ensures { (path : Path) → slice_get instances.now number ≡ Some path → HasInput instances.now path result.now }
 {
     let instance = &instances[number];
     let caller = instance.caller;
-    *instances[caller].input(instance.place)
+    instances[caller].input(instance.place)
 }
 
 /// The result that is stored for an instance, with its caller.
