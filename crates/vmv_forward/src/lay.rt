@@ -1,11 +1,11 @@
-ghost use Rattle.std.specs.Prelude.{◌≡◌, ◌<◌, ◌≤◌, ◌+◌, ℕ, ◌↔◌, [], Some, length, slice_get, IsTrue, OnOk, IfOk};
+ghost use Rattle.std.specs.Prelude.{◌≡◌, ◌<◌, ◌≤◌, ◌+◌, ◌++◌, ◌∷◌, ℕ, ◌↔◌, [], Some, length, slice_get, IsTrue, OnOk, IfOk};
 ghost use Rattle.std.specs.List.{Contains};
 ghost use Rattle.vmv_snapshot.specs.Resolution.{procs_of};
 ghost use Rattle.vmv_zone.specs.Zone.{vars_of, NotBottom};
 ghost use Rattle.vmv_cert.specs.declared.row.Row.{Row};
 ghost use Rattle.vmv_forward.specs.Least.{IsRowFor};
 ghost use Rattle.vmv_forward.specs.Path.{Path};
-ghost use Rattle.vmv_forward.specs.Rows.{IsReached, Lays};
+ghost use Rattle.vmv_forward.specs.Rows.{IsReached, IsRowOf, Lays};
 ghost use Rattle.vmv_forward.specs.Rounds.{quest_of, AreKept, HasInput};
 
 use crate::instance::Instance;
@@ -48,6 +48,25 @@ fn stands(snapshot: &Snapshot, proc: ProcId, input: &Zone, rows: &[Row]) -> bool
     false
 }
 
+/// Adds the row of an instance that is reached.
+#[inline(never)]
+fn add_row(
+    alloc: Global,
+    search: &Search<'_>,
+    instances: &[Instance],
+    number: usize,
+    rows: &mut Vec<Row>,
+) -> Result<(), AllocError>
+    requires from { 1 ≤ number }
+    requires to { number < length instances.now }
+    requires kept { AreKept (quest_of search.now) instances.now }
+    requires reached { IsReached instances.now number }
+    ensures { OnOk result ((row : Row) × IsRowOf search.now.snapshot.now instances.now number row × (rows.new.items ≡ rows.old.items ++ row ∷ [])) }
+{
+    rows.push(row_of(alloc, search, instances, number)?)?;
+    Ok(())
+}
+
 /// Adds the row of an instance that is reached, unless one of its procedure and input stands there, and behind it those of
 /// the instances that it calls.
 fn lay(
@@ -65,10 +84,10 @@ fn lay(
 {
     let instance = &instances[number];
     let input = input_of(search, instances, number);
-    if stands(search.snapshot, instance.proc, &input, rows.as_slice()) {
+    if stands(search.snapshot, instance.proc, input, rows.as_slice()) {
         return Ok(());
     }
-    rows.push(row_of(alloc, search, instances, number)?)?;
+    add_row(alloc, search, instances, number, rows)?;
     for (c, callee) in instance.callees.iter().enumerate() {
         if !instance.input(c).is_bottom() {
             lay(alloc, search, instances, *callee, rows)?;

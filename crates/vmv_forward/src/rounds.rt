@@ -29,15 +29,19 @@ pub(crate) struct Search<'a> {
 }
 
 /// The input that is stored for an instance, with its caller.
-pub(crate) fn input_of(search: &Search<'_>, instances: &[Instance], number: usize) -> Zone
+pub(crate) fn input_of<'a>(
+    search: &Search<'_>,
+    instances: &'a [Instance],
+    number: usize,
+) -> &'a Zone
     requires from { 1 ≤ number }
     requires to { number < length instances.now }
     requires kept { AreKept (quest_of search.now) instances.now }
-    ensures { (path : Path) → slice_get instances.now number ≡ Some path → HasInput instances.now path result }
+    ensures { (path : Path) → slice_get instances.now number ≡ Some path → HasInput instances.now path result.now }
 {
     let instance = &instances[number];
     let caller = instance.caller;
-    *instances[caller].input(instance.place)
+    instances[caller].input(instance.place)
 }
 
 /// The result that is stored for an instance, with its caller.
@@ -83,12 +87,13 @@ fn pass<L: Ledger>(
 }
 
 /// Passes over an instance from the input that its caller has for it, and gives the range to the caller. Answers whether
-/// something that is stored was raised.
+/// something that is stored was raised. The input stands in the spare state meanwhile.
 fn visit<L: Ledger>(
     search: &Search<'_>,
     instances: &mut [Instance],
     number: usize,
     steps: &mut Steps<L>,
+    spare: &mut Zone,
 ) -> bool
     requires from { 1 ≤ number }
     requires to { number < length instances.old }
@@ -98,8 +103,8 @@ fn visit<L: Ledger>(
     let instance = &instances[number];
     let caller = instance.caller;
     let place = instance.place;
-    let input = *instances[caller].input(place);
-    let passed = pass(search, &mut instances[number], &input, steps);
+    spare.copy_from(instances[caller].input(place));
+    let passed = pass(search, &mut instances[number], spare, steps);
     instances[caller].set_result(place, passed.range);
     passed.raised
 }
@@ -130,12 +135,13 @@ fn mark(instance: &Instance, number: usize, raised: bool, due: &mut [bool])
 }
 
 /// Visits those of the instances that have to be visited, those that are called before their callers. Answers whether
-/// something that is stored was raised.
+/// something that is stored was raised. The visits need the spare state.
 fn round<L: Ledger>(
     search: &Search<'_>,
     instances: &mut [Instance],
     due: &mut [bool],
     steps: &mut Steps<L>,
+    spare: &mut Zone,
 ) -> bool
     requires kept { AreKept (quest_of search.now) instances.old }
     requires due { AreDue (quest_of search.now) instances.old due.old }
@@ -153,7 +159,7 @@ fn round<L: Ledger>(
     while number > 1 {
         number -= 1;
         if due[number] {
-            let rises = visit(search, instances, number, steps);
+            let rises = visit(search, instances, number, steps, spare);
             mark(&instances[number], number, rises, due);
             if rises {
                 raised = true;
@@ -179,8 +185,9 @@ pub(crate) fn settle<L: Ledger>(
     ensures loops { loops_of instances.new ≡ loops_of instances.old }
     ensures cost { steps.new + all_ranks search.now.thresholds.now instances.old ≤ steps.old + all_ranks search.now.thresholds.now instances.new }
 {
+    let mut spare = Zone::bottom(0);
     let mut raised = true;
     while raised {
-        raised = round(search, instances, due, steps);
+        raised = round(search, instances, due, steps, &mut spare);
     }
 }

@@ -147,7 +147,7 @@ pub(crate) fn row_of(
     let instance = &instances[number];
     Ok(Row {
         proc: search.snapshot.proc_name(instance.proc),
-        input: input_of(search, instances, number),
+        input: *input_of(search, instances, number),
         keeps: Items::from_slice(alloc, instance.keeps.as_slice())?,
         result: reach_of(result_of(search, instances, number)),
         unproved: Items::from_vec(sites_of(alloc, search, instances, number)?),

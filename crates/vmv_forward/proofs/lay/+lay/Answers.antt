@@ -20,11 +20,11 @@ pub returns-then-stands : goal.returns-then-stands
 returns-then-stands t c =
     let path = c.index-instances-number.result in
     let at = read c.args.instances.now c.args.number path c.requires.to c.index-instances-number.is in
-    laid_before c.args.search.now.snapshot.now c.args.instances.now c.args.number path c.input_of-input.result c.args.rows.now.items c.requires.to at (c.input_of-input.ensures path at)
-    (standing c.args.search.now.snapshot.now (the_view c.instance.inside) path c.as_slice.result.now c.args.rows.now.items c.input_of-input.result c.instance.view_is c.as_slice.ensures.value (c.stands.ensures.0 c.if-stands.true))
+    laid_before c.args.search.now.snapshot.now c.args.instances.now c.args.number path c.input_of-input.result.now c.args.rows.now.items c.requires.to at (c.input_of-input.ensures path at)
+    (standing c.args.search.now.snapshot.now (the_view c.instance.inside) path c.as_slice.result.now c.args.rows.now.items c.input_of-input.result.now c.instance.view_is c.as_slice.ensures.value (c.stands.ensures.0 c.if-stands.true))
 
 pub loop-c-init : goal.loop-c-init
-loop-c-init t c = laying_start c.args.search.now.snapshot.now c.args.instances.now c.args.number c.index-instances-number.result c.push.new.self.items
+loop-c-init t c = laying_start c.args.search.now.snapshot.now c.args.instances.now c.args.number c.index-instances-number.result c.add_row.new.rows.items
 
 pub input-requires : goal.input-requires
 input-requires t c =
@@ -53,11 +53,11 @@ loop-c-preserved t c =
     elim c.if-not-is_bottom.branch [
       | then-not-is_bottom+in_ok-lay w ↦
           (let up = untrue c.is_bottom.result c.input.result.now.bottom w.if-not-is_bottom.true c.is_bottom.ensures.1 in
-          subst (λ (v : Vec Row Global). Laying c.args.search.now.snapshot.now c.args.instances.now c.args.number path (c.loop-c.c + 1) c.push.new.self.items v.items) (sym w.rows-is)
-          (laying_more c.args.search.now.snapshot.now c.args.instances.now c.args.number path c.loop-c.c c.push.new.self.items c.loop-c.rows.items w.lay.new.rows.items (get_or c.deref-callee-items.result.now c.loop-c.c 0) c.input.result.now n.to c.loop-c.invariant at n.is
+          subst (λ (v : Vec Row Global). Laying c.args.search.now.snapshot.now c.args.instances.now c.args.number path (c.loop-c.c + 1) c.add_row.new.rows.items v.items) (sym w.rows-is)
+          (laying_more c.args.search.now.snapshot.now c.args.instances.now c.args.number path c.loop-c.c c.add_row.new.rows.items c.loop-c.rows.items w.lay.new.rows.items (get_or c.deref-callee-items.result.now c.loop-c.c 0) c.input.result.now n.to c.loop-c.invariant at n.is
           c.input.ensures n.later n.there n.caller_is n.place_is up w.in_ok-lay.ensures))
       | else-not-is_bottom w ↦
-          laying_skip c.args.search.now.snapshot.now c.args.instances.now c.args.number path c.loop-c.c c.push.new.self.items c.loop-c.rows.items c.if-not-is_bottom.rows.items (get_or c.deref-callee-items.result.now c.loop-c.c 0) c.input.result.now c.loop-c.invariant n.is
+          laying_skip c.args.search.now.snapshot.now c.args.instances.now c.args.number path c.loop-c.c c.add_row.new.rows.items c.loop-c.rows.items c.if-not-is_bottom.rows.items (get_or c.deref-callee-items.result.now c.loop-c.c 0) c.input.result.now c.loop-c.invariant n.is
           c.input.ensures (c.is_bottom.ensures.0 w.if-not-is_bottom.false) (ap (λ (v : Vec Row Global). v.items) w.rows-is)
     ]
 
@@ -66,7 +66,7 @@ returns t c =
     let path = c.index-instances-number.result in
     let at = read c.args.instances.now c.args.number path c.requires.to c.index-instances-number.is in
     let items = c.deref-callee-items.ensures.value ∙ ap (λ (p : Path). p.callees) c.instance.view_is in
-    laid_now (quest_of c.args.search.now) c.args.instances.now c.args.number path c.input_of-input.result c.args.rows.now.items c.push.new.self.items c.loop-c.rows.items c.in_ok-row_of.field-0 c.loop-c.c c.deref-callee-items.result.now c.requires.kept c.requires.from
+    laid_now (quest_of c.args.search.now) c.args.instances.now c.args.number path c.input_of-input.result.now c.args.rows.now.items c.add_row.new.rows.items c.loop-c.rows.items c.in_ok-add_row.ensures.0 c.loop-c.c c.deref-callee-items.result.now c.requires.kept c.requires.from
     c.requires.to at (c.input_of-input.ensures path at)
-    (λ s. untold c.stands.result c.if-stands.false c.stands.ensures.1 (unstanding c.args.search.now.snapshot.now (the_view c.instance.inside) path c.as_slice.result.now c.args.rows.now.items c.input_of-input.result c.instance.view_is c.as_slice.ensures.value s))
-    c.in_ok-row_of.ensures c.in_ok-push.ensures.items items c.loop-c-test.false c.loop-c.auto.c-end c.loop-c.invariant
+    (λ s. untold c.stands.result c.if-stands.false c.stands.ensures.1 (unstanding c.args.search.now.snapshot.now (the_view c.instance.inside) path c.as_slice.result.now c.args.rows.now.items c.input_of-input.result.now c.instance.view_is c.as_slice.ensures.value s))
+    c.in_ok-add_row.ensures.1 c.in_ok-add_row.ensures.2 items c.loop-c-test.false c.loop-c.auto.c-end c.loop-c.invariant

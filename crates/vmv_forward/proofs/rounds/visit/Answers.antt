@@ -1,4 +1,4 @@
-use Rattle.std.proofs.Common.{arith, rules, ◌<◌, length}
+use Rattle.std.proofs.Common.{arith, rules, Some, ap, sym, ◌∙◌, ◌<◌, length}
 use Rattle.vmv_forward.specs.Rounds.{quest_of}
 use Rattle.vmv_forward.specs.contracts.instance.Instance.{the_view}
 use Rattle.vmv_forward.proofs.Sets.{length_set}
@@ -35,7 +35,7 @@ pub pass-passed-requires-clause-input : goal.pass-passed-requires-clause-input
 pass-passed-requires-clause-input g c =
     let q = quest_of c.args.search.now in
     let r = reads_view q c.args.instances.now c.args.number c.index-instances-number.result c.requires.kept c.requires.from c.requires.to c.index-instances-number.is (the_view c.instance.inside) c.instance.view_is in
-    input_sizes q c.args.instances.now c.args.number (the_view c.instance.inside) c.index-instances-caller.result c.index-instances-number-2.result c.input.result.now c.requires.kept c.requires.from r c.input.ensures
+    input_sizes q c.args.instances.now c.args.number (the_view c.instance.inside) c.index-instances-caller.result c.index-instances-number-2.result c.copy_from.new.self c.requires.kept c.requires.from r (c.input.ensures ∙ ap Some (sym c.copy_from.ensures))
 
 pub pass-passed-requires-clause-fits : goal.pass-passed-requires-clause-fits
 pass-passed-requires-clause-fits g c =
@@ -69,4 +69,4 @@ returns g c =
     let q = quest_of c.args.search.now in
     let r = reads_view q c.args.instances.now c.args.number c.index-instances-number.result c.requires.kept c.requires.from c.requires.to c.index-instances-number.is (the_view c.instance.inside) c.instance.view_is in
     made_of q c.args.instances.now c.args.number (the_view c.instance.inside) c.index-instances-caller.result c.index-instances-number-2.result c.index-instances-caller-2.result c.pass-passed.new.instance c.set_result.new.self
-    c.input.result.now c.pass-passed.result.range c.pass-passed.result.raised c.args.steps.now c.pass-passed.new.steps r c.input.ensures c.pass-passed.ensures c.set_result.ensures
+    c.copy_from.new.self c.pass-passed.result.range c.pass-passed.result.raised c.args.steps.now c.pass-passed.new.steps r (c.input.ensures ∙ ap Some (sym c.copy_from.ensures)) c.pass-passed.ensures c.set_result.ensures
