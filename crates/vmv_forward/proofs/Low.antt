@@ -6,8 +6,6 @@ use Rattle.vmv_zone.specs.Round.{IsThresholdState}
 use Rattle.vmv_forward.proofs.States.{below_same}
 use Rattle.std.proofs.Common.{◌≡◌, inl, inr, ⊎_elim, ℕ, zero, suc, ◌+◌, ◌≤◌, Bool, true, Option, Some, List, [], ◌∷◌, length, map, slice_get, refl, sym, ap, subst, arith, ◌∙◌, ℤ}
 use Rattle.std.specs.List.{All, AllZip, Contains}
-use Rattle.std.specs.Option.{option_map}
-use Rattle.std.proofs.lemmas.Option.{slice_get-map}
 use Rattle.std.proofs.lemmas.Bool.{cases_eq}
 use Rattle.vmv_tree.specs.Tree.{Item}
 use Rattle.vmv_tree.specs.Run.{name_of}

@@ -20,7 +20,7 @@ use Rattle.vmv_pass.specs.Callees.{block_callees}
 use Rattle.vmv_pass.specs.Upper.{IsProc}
 use Rattle.vmv_forward.specs.Path.{Path}
 use Rattle.vmv_forward.specs.Paths.{IsGrown}
-use Rattle.vmv_forward.specs.Rounds.{Quest, HasInput, HasResult, AreFit, AreKept, IsVisited, IsPassed}
+use Rattle.vmv_forward.specs.Rounds.{Quest, HasInput, AreFit, AreKept, IsVisited, IsPassed}
 use Rattle.vmv_forward.proofs.Sets.{get_other}
 use Rattle.vmv_forward.proofs.Low.{input_fits}
 use Rattle.vmv_forward.proofs.Visiting.{Seen}

@@ -1,7 +1,6 @@
 -- From an instance to those that it calls, one after another.
-use Rattle.std.proofs.Common.{◌≡◌, ⊎_elim, ℕ, zero, suc, ◌+◌, ◌-◌, ◌<◌, ◌≤◌, Bool, true, false, Some, List, [], ◌∷◌, length, slice_get, get_or, IsTrue, IsFalse, not, refl, sym, ap, subst, arith, ◌∙◌}
+use Rattle.std.proofs.Common.{◌≡◌, ℕ, zero, suc, ◌-◌, ◌<◌, ◌≤◌, Bool, true, false, Some, List, [], ◌∷◌, length, slice_get, get_or, IsTrue, IsFalse, refl, sym, subst, arith, ◌∙◌}
 use Rattle.std.proofs.lemmas.Slice.Zip.{AllZip-long}
-use Rattle.std.proofs.lemmas.Bool.{cases_lt}
 use Rattle.std.specs.List.{Contains}
 use Rattle.std.specs.Prelude.{◌↔◌, map}
 use Rattle.vmv_tree.specs.declared.name.Name.{Name}
@@ -14,8 +13,7 @@ use Rattle.vmv_cert.specs.Tables.{IsSiteOf, AreSitesOf}
 use Rattle.vmv_snapshot.specs.declared.code.ProcId.{ProcId}
 use Rattle.vmv_snapshot.specs.View.{code_of}
 use Rattle.vmv_zone.specs.declared.zone.Zone.{Zone}
-use Rattle.vmv_zone.specs.Zone.{vars_of, IsBottom, NotBottom, IsNormal}
-use Rattle.vmv_zone.proofs.Equal.{clash}
+use Rattle.vmv_zone.specs.Zone.{vars_of, NotBottom, IsNormal}
 use Rattle.vmv_check.specs.Walker.{HasParams}
 use Rattle.vmv_check.proofs.Lists.{some_same, within, item_at, at_place}
 use Rattle.vmv_pass.specs.Callees.{block_callees}
