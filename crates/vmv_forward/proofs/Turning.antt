@@ -2,7 +2,7 @@
 use Rattle.vmv_snapshot.specs.View.{code_of}
 use Rattle.vmv_pass.specs.Callees.{block_callees}
 use Rattle.vmv_forward.proofs.Passing.{element}
-use Rattle.std.specs.List.{All, Contains}
+use Rattle.std.specs.List.{All}
 use Rattle.std.proofs.Common.{◌≡◌, ⊎_elim, ℕ, ◌+◌, ◌*◌, ◌<◌, cond, ◌≤◌, Bool, true, false, Some, List, length, slice_get, IsTrue, IsFalse, refl, sym, ap, subst, arith, ◌∙◌}
 use Rattle.std.specs.Prelude.{slice_set, get_or}
 use Rattle.std.proofs.lemmas.Bool.{cases_eq}
@@ -112,7 +112,7 @@ due_stays q xs j raised s ys s' v due due' one kept are m =
           ⊎_elim (λ (e : k ≡ j). subst (IsSettled q ys) (sym e) (settled_here q xs j raised s ys s' v one kept.grown (marked.here (subst (λ i. slice_get due' i ≡ Some false) e past))))
           (λ (n : k ≡ j → ⊥).
           settled_stays q xs j raised s ys s' v k from n (λ e. marked.caller (subst (λ i. slice_get due' i ≡ Some false) (e ∙ sym shape.caller) past))
-          (λ t c. marked.uncalled k past t (subst (λ (l : List ℕ). Contains l k) (sym shape.callees) c)) kept.grown (are.others k from (marked.before k past n))) (cases_eq k j);
+          (λ t c called. marked.uncalled k c past t (subst (λ (l : List ℕ). slice_get l c ≡ Some k) (sym shape.callees) called)) kept.grown (are.others k from (marked.before k past n))) (cases_eq k j);
     }
 
 -- a visit that raised something

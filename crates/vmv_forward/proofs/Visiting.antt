@@ -1,7 +1,5 @@
 -- What a visit of an instance changes, and what it leaves.
-use Rattle.std.specs.List.{Contains}
-use Rattle.vmv_zone.proofs.Equal.{by_truth}
-use Rattle.vmv_check.proofs.Lists.{got_in}
+use Rattle.vmv_zone.proofs.Equal.{by_truth, clash, below_both}
 use Rattle.std.proofs.Common.{◌≡◌, ◌⊎◌, inl, inr, ⊎_elim, ℕ, zero, suc, ◌+◌, ◌<◌, ◌≤◌, ℤ, Bool, Some, List, [], ◌∷◌, length, slice_get, IsTrue, IsFalse, refl, sym, ap, subst, arith, ◌∙◌}
 use Rattle.std.specs.Prelude.{slice_set, sum_by}
 use Rattle.std.specs.List.{All, AllZip}
@@ -12,7 +10,7 @@ use Rattle.vmv_snapshot.specs.declared.code.Code.{Code}
 use Rattle.vmv_snapshot.specs.declared.code.ProcId.{ProcId}
 use Rattle.vmv_snapshot.specs.View.{code_of}
 use Rattle.vmv_zone.specs.declared.zone.Zone.{Zone}
-use Rattle.vmv_zone.specs.Zone.{vars_of, IsBelow, IsNormal}
+use Rattle.vmv_zone.specs.Zone.{vars_of, IsBottom, IsBelow, IsNormal}
 use Rattle.vmv_zone.specs.Round.{IsThresholdState}
 use Rattle.vmv_check.specs.Walker.{HasParams}
 use Rattle.vmv_check.proofs.Lists.{some_same, within, item_at}
@@ -22,7 +20,7 @@ use Rattle.vmv_pass.specs.Room.{rooms, ranks}
 use Rattle.vmv_pass.specs.Upper.{IsProc, Fits, AreBelow}
 use Rattle.vmv_forward.specs.Path.{Path}
 use Rattle.vmv_forward.specs.Paths.{IsCallee, IsPlaced, IsGrown, loops_of}
-use Rattle.vmv_forward.specs.Rounds.{Quest, stored_of, HasInput, HasResult, AreFit, IsSettled, IsVisited, all_rooms, all_ranks, HaveFew}
+use Rattle.vmv_forward.specs.Rounds.{Quest, stored_of, HasInput, HasResult, AreFit, IsSettled, IsVisited, IsBottomAt, all_rooms, all_ranks, HaveFew}
 use Rattle.vmv_forward.proofs.Sets.{get_same, get_other, length_set, sum_set, zip_at}
 use Rattle.vmv_forward.proofs.States.{below_same}
 
@@ -329,9 +327,10 @@ settled_here q xs j raised s ys s' v from grown still path input result item cod
     let b2 = subst (λ (z : Zone). Settles (stored_of q.assumed path) item code z o.range) (sym (before.stay still ∙ taken)) b1 in
     subst (λ (c : Cond). Settles (stored_of q.assumed path) item code input c) (sym range) b2
 
--- an instance stays settled that isn't the one that was visited, nor its caller, nor one that it calls where something was raised
+-- an instance stays settled that isn't the one that was visited, nor its caller, nor one that it calls with an input that isn't Bottom where
+-- something was raised
 pub settled_stays : (q : Quest) (xs : List Path) (j : ℕ) (raised : Bool) (s : ℕ) (ys : List Path) (s' : ℕ) (v : Seen q xs j raised s ys s') (k : ℕ) → 1 ≤ k → (k ≡ j → ⊥) → (k ≡ v.visited.old.caller → ⊥) →
-    (IsTrue raised → Contains v.visited.old.callees k → ⊥) → IsGrown q.program q.entry xs → IsSettled q xs k → IsSettled q ys k
+    (IsTrue raised → (c : ℕ) → slice_get v.visited.old.callees c ≡ Some k → IsBottomAt v.visited.new.inputs c) → IsGrown q.program q.entry xs → IsSettled q xs k → IsSettled q ys k
 settled_stays q xs j raised s ys s' v k from apart off uncalled grown settled path' input result item code at has given is =
     let o = v.visited in
     let b = back q xs j raised s ys s' v k path' at in
@@ -344,11 +343,16 @@ settled_stays q xs j raised s ys s' v k from apart off uncalled grown settled pa
     let body = settled b.0 before.input result item code b.1 before.has mine is' in
     let b1 = subst (λ (x : Path). Settles (stored_of q.assumed x) item code before.input result) (sym same) body in
     let stays : input ≡ before.input = by_truth raised
-    (λ h. before.apart
-    (λ e.
+    (λ h. ⊎_elim (λ (e : b.0.caller ≡ j).
     let here : placed.caller ≡ o.old = some_same (sym placed.there ∙ (ap (slice_get xs) e ∙ o.old_is)) in
     let called = subst (λ (x : Path). slice_get x.callees b.0.place ≡ Some k) here placed.called in
-    uncalled h (got_in o.old.callees b.0.place k called)))
+    let none = uncalled h b.0.place called in
+    let new : has.0 ≡ o.new = some_same (sym has.1 ∙ (ap (slice_get ys) (b.2.caller ∙ e) ∙ new_at q xs j raised s ys s' v)) in
+    let there : slice_get has.0.inputs b.0.place ≡ Some input = subst (λ n. slice_get has.0.inputs n ≡ Some input) b.2.place_is has.2 in
+    let mine : slice_get o.new.inputs b.0.place ≡ Some input = subst (λ (x : Path). slice_get x.inputs b.0.place ≡ Some input) new there in
+    let empty : IsBottom input = subst IsBottom (some_same (sym none.1 ∙ mine)) none.2 in
+    below_both input before.input before.vars (λ up. clash input.bottom empty up) before.below)
+    (λ (n : b.0.caller ≡ j → ⊥). before.apart n) (cases_eq b.0.caller j))
     (λ h. before.stay h) in
     subst (λ (z : Zone). Settles (stored_of q.assumed path') item code z result) (sym stays) b1
 

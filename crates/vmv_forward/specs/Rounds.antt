@@ -6,7 +6,7 @@ use Rattle.vmv_cond.specs.declared.cond.Cond.{Cond}
 use Rattle.vmv_snapshot.specs.declared.code.Code.{Code}
 use Rattle.vmv_snapshot.specs.Resolution.{Resolution, IsResolution}
 use Rattle.vmv_zone.specs.declared.zone.Zone.{Zone}
-use Rattle.vmv_zone.specs.Zone.{vars_of, IsBelow, IsNormOf, IsNormal}
+use Rattle.vmv_zone.specs.Zone.{vars_of, IsBottom, IsBelow, IsNormOf, IsNormal}
 use Rattle.vmv_zone.specs.Round.{IsThresholdState}
 use Rattle.vmv_assumption.specs.Assumed.{Assumed, cond_of}
 use Rattle.vmv_cert.specs.declared.row.Row.{Row}
@@ -177,18 +177,23 @@ pub record AreDue (q : Quest) (paths : List Path) (due : List Bool) : Type 0 whe
 abbrev pub AreDone : List Bool → ℕ → Type 0
 AreDone due number = (k : ℕ) → number ≤ k → k < length due → slice_get due k ≡ Some false
 
--- these have to be visited too
-pub record AreCalledDue (callees : List ℕ) (due due' : List Bool) : Type 0 where
+-- the input of the call of this place is Bottom
+abbrev pub IsBottomAt : List Zone → ℕ → Type 0
+IsBottomAt inputs c = (input : Zone) × (slice_get inputs c ≡ Some input) × IsBottom input
+
+-- of these, those whose inputs aren't Bottom have to be visited too
+pub record AreCalledDue (callees : List ℕ) (inputs : List Zone) (due due' : List Bool) : Type 0 where
   pub count : length due' ≡ length due
   pub before : (k : ℕ) → slice_get due' k ≡ Some false → slice_get due k ≡ Some false
-  pub uncalled : (k : ℕ) → slice_get due' k ≡ Some false → Contains callees k → ⊥
+  pub uncalled : (k c : ℕ) → slice_get due' k ≡ Some false → slice_get callees c ≡ Some k → IsBottomAt inputs c
 
--- behind a visit its caller has to be visited again, and where something was raised the instance and those that it calls
+-- behind a visit its caller has to be visited again, and where something was raised the instance and those that it
+-- calls with inputs that aren't Bottom
 pub record AreMarked (path : Path) (number : ℕ) (raised : Bool) (due due' : List Bool) : Type 0 where
   pub count : length due' ≡ length due
   pub here : slice_get due' number ≡ Some false → IsFalse raised
   pub caller : slice_get due' path.caller ≡ Some false → ⊥
-  pub uncalled : (k : ℕ) → slice_get due' k ≡ Some false → IsTrue raised → Contains path.callees k → ⊥
+  pub uncalled : (k c : ℕ) → slice_get due' k ≡ Some false → IsTrue raised → slice_get path.callees c ≡ Some k → IsBottomAt path.inputs c
   pub before : (k : ℕ) → slice_get due' k ≡ Some false → (k ≡ number → ⊥) → slice_get due k ≡ Some false
   pub done : IsFalse raised → slice_get due' number ≡ Some false
   pub after : IsFalse raised → (k : ℕ) → number < k → slice_get due k ≡ Some false → slice_get due' k ≡ Some false

@@ -8,7 +8,7 @@ ghost use Rattle.vmv_zone.specs.Zone.{vars_of};
 ghost use Rattle.vmv_pass.specs.Upper.{IsProc, AreScale, Fits};
 ghost use Rattle.vmv_forward.specs.Path.{Path};
 ghost use Rattle.vmv_forward.specs.Paths.{loops_of};
-ghost use Rattle.vmv_forward.specs.Rounds.{quest_of, stored_of, AreKept, HasInput, HasResult, IsSettled, IsPassed, IsVisited, AreDue, AreDone, AreCalledDue, AreMarked, HaveFew, all_rooms, all_ranks};
+ghost use Rattle.vmv_forward.specs.Rounds.{quest_of, stored_of, AreKept, HasInput, HasResult, IsSettled, IsPassed, IsVisited, AreDue, AreDone, AreCalledDue, IsBottomAt, AreMarked, HaveFew, all_rooms, all_ranks};
 
 use crate::instance::Instance;
 use std::sync::ledger::Ledger;
@@ -109,18 +109,30 @@ fn visit<L: Ledger>(
     passed.raised
 }
 
-/// These have to be visited.
-fn mark_called(callees: &[usize], due: &mut [bool])
-    requires { All (λ k. k < length due.old) callees.now }
-    ensures { AreCalledDue callees.now due.old due.new }
+/// Whether the input of the call of this place isn't Bottom, so far as is known.
+fn is_entered(inputs: &[Zone], place: usize) -> bool
+    ensures { IsFalse result → IsBottomAt inputs.now place }
 {
-    for callee in callees {
-        due[*callee] = true;
+    match inputs.get(place) {
+        Some(input) => !input.is_bottom(),
+        None => true,
+    }
+}
+
+/// Those of these have to be visited whose inputs aren't Bottom.
+fn mark_called(callees: &[usize], inputs: &[Zone], due: &mut [bool])
+    requires { All (λ k. k < length due.old) callees.now }
+    ensures { AreCalledDue callees.now inputs.now due.old due.new }
+{
+    for (c, callee) in callees.iter().enumerate() {
+        if is_entered(inputs, c) {
+            due[*callee] = true;
+        }
     }
 }
 
 /// Marks the instances that have to be visited behind a visit of this one: its caller, and, where something was raised, the
-/// instance itself and those that it calls.
+/// instance itself and those that it calls with inputs that aren't Bottom.
 fn mark(instance: &Instance, number: usize, raised: bool, due: &mut [bool])
     requires inside { number < length due.old }
     requires caller { instance.now.caller < number }
@@ -130,7 +142,7 @@ fn mark(instance: &Instance, number: usize, raised: bool, due: &mut [bool])
     due[number] = raised;
     due[instance.caller] = true;
     if raised {
-        mark_called(instance.callees.as_slice(), due);
+        mark_called(instance.callees.as_slice(), instance.inputs.as_slice(), due);
     }
 }
 

@@ -1,5 +1,5 @@
 use Rattle.vmv_forward.proofs.Marking.{MarkedTo}
 use Rattle.vmv_forward.proofs.rounds.mark_called.Given as goal
 
-abbrev pub invariant-loop-callee : goal.invariant-loop-callee
-invariant-loop-callee l = MarkedTo l.callees l.initial.due l.due l.callee-index
+abbrev pub invariant-loop-c : goal.invariant-loop-c
+invariant-loop-c l = MarkedTo l.callees l.inputs l.initial.due l.due l.c
