@@ -1,0 +1,10 @@
+pub mod App
+pub mod Counts
+pub mod Just
+pub mod Looks
+pub mod Parsed
+pub mod Rows
+pub mod Sound
+pub mod Steps
+pub mod Uses
+pub mod Whole

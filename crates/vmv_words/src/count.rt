@@ -1,0 +1,18 @@
+ghost use Rattle.std.specs.Prelude.{ℕ, MatchOption};
+ghost use Rattle.vmv_words.specs.Words.{IsCount};
+
+/// The number of workers that a word has in decimal digits, from 1 to 64.
+pub(crate) fn count(word: &str) -> Option<u32>
+    ensures { MatchOption result ((n : ℕ) → IsCount word.now n → ⊥) (IsCount word.now) }
+{
+    if word.as_bytes().starts_with(b"+") {
+        return None;
+    }
+    let Ok(number) = word.parse::<u32>() else {
+        return None;
+    };
+    if number == 0 || number > 64 {
+        return None;
+    }
+    Some(number)
+}
