@@ -2,6 +2,7 @@ pub mod App
 pub mod Counts
 pub mod Just
 pub mod Looks
+pub mod Once
 pub mod Parsed
 pub mod Rows
 pub mod Sound

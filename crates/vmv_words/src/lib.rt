@@ -3,7 +3,9 @@
 
 mod count;
 mod given;
+mod laws;
 mod matches;
 mod request;
 
+pub use laws::words_ask_for_one_thing;
 pub use request::{Request, read_words};
