@@ -1,5 +1,5 @@
 -- Which reports say that a revision is relatively correct.
-use Rattle.std.proofs.Common.{◌≡◌, ◌⊎◌, ⊎_elim, ℕ, Option, Some, List, [], ◌∷◌, ◌++◌, codes, nat_eq, IsTrue, ap, subst, ◌∙◌}
+use Rattle.std.proofs.Common.{◌≡◌, ◌⊎◌, ⊎_elim, ℕ, Option, Some, List, [], ◌∷◌, ◌++◌, codes, nat_eq, IsTrue, ap, subst, append_assoc, ◌∙◌}
 use Rattle.std.specs.List.{starts_with}
 use Rattle.vmv_tree.specs.declared.name.Name.{Name}
 use Rattle.vmv_cond.specs.declared.cond.Cond.{Cond}
@@ -27,15 +27,16 @@ alarms_silent v rest e h = let g = subst (λ (n : ℕ). Says (verdict_line n ++ 
 regressions_silent : (v : ℕ) (rest : List ℕ) → v ≡ 3 → Says (verdict_line v ++ rest) → ⊥
 regressions_silent v rest e h = let g = subst (λ (n : ℕ). Says (verdict_line n ++ rest)) e h in absurd (cc)
 
-module _ (base revision : Resolution) (report : Report) where
-  told_says : (scope : Scope) (needed : Needed) (enough : Option (List (Name × Cond))) → Tells revision scope.ends needed enough report → Says (report_text report base revision) → report.verdict ≡ 1
+module _ (base revision : Resolution) (report : Report) (more : List ℕ) where
+  told_says : (scope : Scope) (needed : Needed) (enough : Option (List (Name × Cond))) → Tells revision scope.ends needed enough report → Says (report_text report base revision ++ more) → report.verdict ≡ 1
   told_says scope (Vacuous shown) enough tells says =
       let e : report.shown_by ≡ Some shown = ap (λ (r : Report). r.shown_by) tells in
-      let g = subst (λ (o : Option ShownBy). Says (text_by report base revision o)) e says in
-      absurd (vacuous_silent (line (shown_text base shown)) g)
+      let g = subst (λ (o : Option ShownBy). Says (text_by report base revision o ++ more)) e says in
+      absurd (vacuous_silent (line (shown_text base shown) ++ more) (subst Says (append_assoc (line (codes "verdict vacuous")) (line (shown_text base shown)) more) g))
   told_says scope (Conditions held cuts) enough tells says =
-      let g = subst (λ (o : Option ShownBy). Says (text_by report base revision o)) tells.shown_by says in
-      let rest = necessary_lines report.conditions ++ (sufficient_lines report.enough ++ (rows_lines revision report.rows ++ witnesses_lines report.witnesses)) in
+      let told = necessary_lines report.conditions ++ (sufficient_lines report.enough ++ (rows_lines revision report.rows ++ witnesses_lines report.witnesses)) in
+      let rest = told ++ more in
+      let g = subst Says (append_assoc (verdict_line report.verdict) told more) (subst (λ (o : Option ShownBy). Says (text_by report base revision o ++ more)) tells.shown_by says) in
       let v = tells.verdict in
       ⊎_elim
       (λ (h : (verdict_of report.rows ≡ 1) × (class_count Regression report.rows ≡ 0) × (class_count Alarm report.rows ≡ 0)). v ∙ h.0)
@@ -44,8 +45,8 @@ module _ (base revision : Resolution) (report : Report) where
       (λ (three : verdict_of report.rows ≡ 3). regressions_silent report.verdict rest (v ∙ three) g) h))
       (verdict_cases report.rows)
 
-  pub says_for : IsReport base revision report → Says (report_text report base revision) → report.verdict ≡ 1
+  pub says_for : IsReport base revision report → Says (report_text report base revision ++ more) → report.verdict ≡ 1
   says_for is says = told_says is.scope is.needed is.enough is.tells says
 
-pub says_correct : (base revision : Resolution) (report : Report) → IsReport base revision report → IsTrue (starts_with nat_eq (report_text report base revision) (codes "verdict relatively correct\n")) → report.verdict ≡ 1
-says_correct base revision report is says = says_for base revision report is says
+pub says_correct : (base revision : Resolution) (report : Report) (more : List ℕ) → IsReport base revision report → IsTrue (starts_with nat_eq (report_text report base revision ++ more) (codes "verdict relatively correct\n")) → report.verdict ≡ 1
+says_correct base revision report more is says = says_for base revision report more is says

@@ -16,6 +16,9 @@ use Rattle.vmv_report.specs.declared.class.Class.{Class}
 use Rattle.vmv_report.specs.declared.class.Class.TheVariants.{Clean, Hidden, Regression, Alarm}
 use Rattle.vmv_report.specs.declared.row.ReportRow.{ReportRow}
 use Rattle.vmv_report.specs.declared.report.Report.{Report}
+use Rattle.vmv_need.specs.declared.needed.Needed.{Needed}
+use Rattle.vmv_need.specs.declared.needed.Needed.TheVariants.{Conditions, Vacuous}
+use Rattle.vmv_report.specs.Baselines.{Based}
 use Rattle.vmv_report.specs.Rows.{proc_name, is_class, class_count}
 
 abbrev pub line : List ℕ → List ℕ
@@ -130,3 +133,12 @@ text_by report base revision (Some shown) = vacuous_text base shown
 -- the text of the report of a review of this revision against this base
 abbrev pub report_text : Report → (base revision : Resolution) → List ℕ
 report_text report base revision = text_by report base revision report.shown_by
+
+-- the conditions of a base, or what shows that it is vacuous
+abbrev pub found_text : Resolution → Needed → Option (List (Name × Cond)) → List ℕ
+found_text base (Conditions held cuts) enough = necessary_lines (Some held) ++ sufficient_lines enough
+found_text base (Vacuous shown) enough = vacuous_text base shown
+
+-- the text of a baseline
+abbrev pub baseline_text : Based → List ℕ
+baseline_text it = found_text it.base it.needed it.enough

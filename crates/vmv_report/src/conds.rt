@@ -113,6 +113,18 @@ fn push_all_told(alloc: Global, out: &mut Vec<u8>, held: &[(Name, Cond)]) -> Res
     Ok(())
 }
 
+/// Writes necessary conditions.
+#[tactic(auto, using(crate::proofs::Writing::writing))]
+pub(crate) fn push_held(
+    alloc: Global,
+    out: &mut Vec<u8>,
+    held: &Assumption,
+) -> Result<(), AllocError>
+    ensures { OnOk result (out.new.items ≡ out.old.items ++ necessary_lines (Some held.now)) }
+{
+    push_conditions(alloc, out, b"necessary ", held.conds())
+}
+
 /// Writes the necessary conditions; there are none of a vacuous base.
 #[tactic(auto, using(crate::proofs::Writing::writing))]
 pub(crate) fn push_necessary(
@@ -123,7 +135,7 @@ pub(crate) fn push_necessary(
     ensures { OnOk result (out.new.items ≡ out.old.items ++ necessary_lines conditions.now) }
 {
     if let Some(assumed) = conditions {
-        push_conditions(alloc, out, b"necessary ", assumed.conds())?;
+        push_held(alloc, out, assumed)?;
     }
     Ok(())
 }

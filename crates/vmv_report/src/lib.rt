@@ -27,4 +27,4 @@ pub use laws::{
 pub use report::{Report, Witnesses};
 pub use row::{ReportRow, ReportRows};
 pub use row_texts::{class_count, class_word, is_class};
-pub use texts::text_of;
+pub use texts::{baseline_text, text_of};

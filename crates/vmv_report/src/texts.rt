@@ -1,17 +1,19 @@
-ghost use Rattle.std.specs.Prelude.{◌≡◌, ◌<◌, ◌++◌, ℤ, IfOk, OnOk, length, zip};
+ghost use Rattle.std.specs.Prelude.{◌≡◌, ◌<◌, ◌++◌, ℤ, IfOk, OnOk, Some, length, zip};
 ghost use Rattle.std.specs.List.{flat_map};
 ghost use Rattle.vmv_snapshot.specs.Resolution.{procs_of};
 ghost use Rattle.vmv_report.specs.Rows.{proc_name};
 ghost use Rattle.vmv_report.specs.Reports.{IsReport};
-ghost use Rattle.vmv_report.specs.Texts.{line, proc_params, param_range, shown_text, vacuous_text, reviewed_text, report_text};
+ghost use Rattle.vmv_report.specs.Texts.{line, proc_params, param_range, shown_text, necessary_lines, sufficient_lines, vacuous_text, reviewed_text, report_text, baseline_text};
 ghost use Rattle.vmv_report.specs.Work.{AreInside, IsShownOf};
 
-use crate::conds::{push_necessary, push_sufficient, range_text};
+use crate::conds::{push_held, push_necessary, push_sufficient, range_text};
+use crate::kept::Baseline;
 use crate::report::Report;
 use crate::row_texts::{push_proc, push_rows, push_witnesses, verdict_line};
 use std::alloc::{AllocError, Global};
+use vmv_assumption::Assumption;
 use vmv_edge::Text;
-use vmv_need::ShownBy;
+use vmv_need::{Needed, ShownBy};
 use vmv_snapshot::{ParamBox, ProcId, Snapshot};
 use vmv_tree::Param;
 
@@ -127,6 +129,35 @@ pub fn text_of(
     let text = match &report.shown_by {
         Some(shown) => vacuous_text(alloc, base, shown)?,
         None => reviewed_text(alloc, report, revision)?,
+    };
+    Ok(Text::from_vec(text))
+}
+
+/// The text of the conditions of a base that isn't vacuous.
+#[tactic(auto, using(crate::proofs::Writing::writing))]
+fn conditions_text(
+    alloc: Global,
+    needed: &Assumption,
+    enough: &Option<Assumption>,
+) -> Result<Vec<u8>, AllocError>
+    ensures { IfOk result (λ text. text.items ≡ necessary_lines (Some needed.now) ++ sufficient_lines enough.now) }
+{
+    let mut out = Vec::new(alloc);
+    push_held(alloc, &mut out, needed)?;
+    push_sufficient(alloc, &mut out, enough)?;
+    Ok(out)
+}
+
+/// The text of what is found of a base: its necessary and its sufficient conditions, or what shows that it is vacuous. It fails
+/// for want of memory alone.
+pub fn baseline_text(alloc: Global, baseline: &Baseline) -> Result<Text, AllocError>
+    ensures { IfOk result (λ text. text ≡ baseline_text baseline.now) }
+{
+    let text = match baseline.needed() {
+        Needed::Conditions { assumption, .. } => {
+            conditions_text(alloc, assumption, baseline.enough())?
+        }
+        Needed::Vacuous { shown_by } => vacuous_text(alloc, baseline.base(), shown_by)?,
     };
     Ok(Text::from_vec(text))
 }
