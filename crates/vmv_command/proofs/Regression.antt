@@ -1,5 +1,5 @@
 -- A printed regression is one.
-use Rattle.std.proofs.Common.{◌≡◌, ◌≢◌, ◌⊎◌, inl, inr, ⊎_elim, ℕ, ◌+◌, nat_lt, ◌==◌, eqb, Bool, true, false, if◌then◌else◌, MatchBool, Option, Some, None, List, [], ◌∷◌, ◌++◌, length, codes, refl, sym, ap, subst, ◌∙◌, arith}
+use Rattle.std.proofs.Common.{◌≡◌, ◌≢◌, inl, inr, ⊎_elim, ℕ, ◌==◌, Bool, true, false, if◌then◌else◌, Option, Some, List, ◌++◌, codes, refl, sym, subst, ◌∙◌}
 use Rattle.std.proofs.lemmas.Bool.{eqb-true}
 use Rattle.vmv_tree.specs.declared.defect.Defect.{Defect}
 use Rattle.vmv_tree.specs.declared.defect.Defect.TheVariants.{UnknownName, Repeated, ArityWrong, IndexAssigned, RangeEmpty, Limit}
@@ -7,20 +7,20 @@ use Rattle.vmv_tree.specs.Tree.{Item}
 use Rattle.vmv_snapshot.specs.Resolution.{Resolution, IsResolution, tree_of}
 use Rattle.vmv_text.specs.Grammar.{IsText}
 use Rattle.vmv_text.proofs.OneTree.{text_once}
-use Rattle.vmv_edge.specs.Outside.{IsAsTold, Appended}
+use Rattle.vmv_edge.specs.Outside.{Appended}
 use Rattle.vmv_source.specs.declared.fault.TextFault.{TextFault}
 use Rattle.vmv_source.specs.declared.fault.TextFault.TheVariants as fault
+use Rattle.vmv_words.specs.Words.{Word, Request, review, Asks}
 use Rattle.vmv_report.specs.declared.report.Report.{Report}
 use Rattle.vmv_report.specs.Reports.{IsReport}
 use Rattle.vmv_report.specs.Regressions.{ShowsRegression}
 use Rattle.vmv_report.specs.Texts.{report_text}
-use Rattle.vmv_command.specs.declared.task.Task.{Task}
-use Rattle.vmv_command.specs.declared.task.Task.TheVariants.{Review, Replay}
+use Rattle.vmv_command.specs.Lines.{SaysTooLong}
 use Rattle.vmv_command.specs.Faults.{SaysFault, fault_status, defect_status}
 use Rattle.vmv_command.specs.Reviews.{ReviewsPrograms, review_status}
-use Rattle.vmv_command.specs.Command.{text_most, first_name, second_name, IsReview, IsCommand, ReviewsTexts, OnFiles, OnTold}
+use Rattle.vmv_command.specs.Command.{text_most, ReviewsTexts, OnFile, Does}
 use Rattle.vmv_command.specs.Regressions.{RegressionHolds}
-use Rattle.vmv_command.proofs.Verdict.{cases, append_same, second_word, third_word, not_both}
+use Rattle.vmv_command.proofs.Verdict.{append_same, on_told, AskOnce}
 
 -- the text of a report with verdict 3 shows a regression
 abbrev pub RegressionsHold : Type 0
@@ -73,50 +73,40 @@ texts_show law base revision B R printed status (inr (C, source, (inr (P, source
     subst (λ (Q : List Item). ShowsRegression Q R printed) (text_once base C B source.0 text)
     (subst (λ (Q : List Item). ShowsRegression C Q printed) (text_once revision P R source'.0 text') (programs_show law C P printed status reviews is))
 
-files_show : RegressionsHold → (base revision : List ℕ) (B R : List Item) (printed : List ℕ) (status : ℕ) → OnFiles Review base revision printed status → IsText base B → IsText revision R →
-    status ≡ 2 → ShowsRegression B R printed
-files_show law base revision B R printed status h text text' is =
+long_not : (called printed : List ℕ) (status : ℕ) → SaysTooLong called text_most printed status → status ≡ 2 → ⊥
+long_not called printed status says is = let e = sym says.1 ∙ is in absurd (cc)
+
+files_show : RegressionsHold → (told : Word → Option (List ℕ)) (base_name revision_name base revision : List ℕ) (B R : List Item) (printed : List ℕ) (status count : ℕ) (proved : Bool) → told base_name ≡ Some base
+    → told revision_name ≡ Some revision → Does told (review base_name revision_name count proved) printed status → IsText base B → IsText revision R → status ≡ 2 → ShowsRegression B R printed
+files_show law told base_name revision_name base revision B R printed status count proved told_b told_r done text text' is =
     ⊎_elim
-    (λ (long : SaysFault (codes "base") (fault.TooLong (text_most + 1)) printed status). absurd (says_not (codes "base") (fault.TooLong (text_most + 1)) printed status long is))
-    (λ (short : MatchBool (nat_lt text_most (length revision)) (SaysFault (codes "revision") (fault.TooLong (text_most + 1)) printed status) (ReviewsTexts base revision printed status)).
-    ⊎_elim
-    (λ (long : SaysFault (codes "revision") (fault.TooLong (text_most + 1)) printed status). absurd (says_not (codes "revision") (fault.TooLong (text_most + 1)) printed status long is))
+    (λ (long : SaysTooLong (codes "base") text_most printed status). absurd (long_not (codes "base") printed status long is))
+    (λ (read : OnFile told revision_name (codes "revision") text_most (ReviewsTexts base) printed status). ⊎_elim
+    (λ (long : SaysTooLong (codes "revision") text_most printed status). absurd (long_not (codes "revision") printed status long is))
     (λ (both : ReviewsTexts base revision printed status). texts_show law base revision B R printed status both text text' is)
-    (cases (nat_lt text_most (length revision)) _ _ short))
-    (cases (nat_lt text_most (length base)) _ _ h)
+    (on_told told revision_name (codes "revision") text_most (ReviewsTexts base) revision printed status told_r read))
+    (on_told told base_name (codes "base") text_most (λ b. OnFile told revision_name (codes "revision") text_most (ReviewsTexts b)) base printed status told_b done)
 
 told_whole : (before after : Option (List ℕ)) (old printed text : List ℕ) → before ≡ Some old → after ≡ Some (old ++ printed) → Appended before text after → printed ≡ text
 told_whole before after old printed text was is h =
     let h' : Appended (Some old) text (Some (old ++ printed)) = rw (was, is) at h in
     append_same old printed text h'
 
-review_shows : RegressionsHold → (words : List (List ℕ)) (told : List ℕ → Option (List ℕ)) (before after : Option (List ℕ)) (base_name revision_name text : List ℕ) (status : ℕ) →
-    IsReview words base_name revision_name → OnTold Review (told base_name) (told revision_name) text status → (status ≡ 2 → Appended before text after) →
-    RegressionHolds words told before after status
-review_shows law words told before after base_name revision_name text status review (read_base, read_revision, base_told, revision_told, reviews) taken
-    b r base revision old printed B R review' told_b told_r text_b text_r was is status_is =
-    let words_same = sym review.words_are ∙ review'.words_are in
-    let told_b' : told base_name ≡ Some base = ap told (second_word base_name revision_name b r words_same) ∙ told_b in
-    let told_r' : told revision_name ≡ Some revision = ap told (third_word base_name revision_name b r words_same) ∙ told_r in
-    let base_is : read_base ≡ base = subst (λ (t : Option (List ℕ)). IsAsTold t read_base) told_b' base_told in
-    let revision_is : read_revision ≡ revision = subst (λ (t : Option (List ℕ)). IsAsTold t read_revision) told_r' revision_told in
+-- whatever was asked for
+regression_holds : RegressionsHold → AskOnce → (request : Request) (words : List Word) (told : Word → Option (List ℕ)) (before after : Option (List ℕ)) (text : List ℕ) (status : ℕ) →
+    Asks words request → Does told request text status → (status ≡ 2 → Appended before text after) → RegressionHolds words told before after status
+regression_holds law once request words told before after text status asks done taken b r base revision old printed B R (count, proved, asks') told_b told_r text_b text_r was is status_is =
+    let same : request ≡ review b r count proved = once words request (review b r count proved) asks asks' in
     let whole = told_whole before after old printed text was is (taken status_is) in
     subst (λ (t : List ℕ). ShowsRegression B R t) (sym whole)
-    (files_show law read_base read_revision B R text status reviews (subst (λ (t : List ℕ). IsText t B) (sym base_is) text_b) (subst (λ (t : List ℕ). IsText t R) (sym revision_is) text_r) status_is)
-
--- the same of any command
-pub regression_holds : RegressionsHold → (task : Task) (words : List (List ℕ)) (told : List ℕ → Option (List ℕ)) (before after : Option (List ℕ)) (first second text : List ℕ) (status : ℕ) →
-    IsCommand task words first second → OnTold task (told first) (told second) text status → (status ≡ 2 → Appended before text after) → RegressionHolds words told before after status
-regression_holds law Review words told before after first second text status command on taken = review_shows law words told before after first second text status command on taken
-regression_holds law Replay words told before after first second text status command on taken = λ b r base revision old printed B R review. absurd (not_both words first second b r command review)
+    (files_show law told b r base revision B R text status count proved told_b told_r (subst (λ (q : Request). Does told q text status) same done) text_b text_r status_is)
 
 -- whether or not all of it was printed
-pub regression_printed : RegressionsHold → (task : Task) (words : List (List ℕ)) (told : List ℕ → Option (List ℕ)) (before after : Option (List ℕ)) (first second text : List ℕ) (status result : ℕ) →
-    IsCommand task words first second → OnTold task (told first) (told second) text status → (result ≢ 7 → result ≡ status) → (result ≢ 7 → Appended before text after) →
-    RegressionHolds words told before after result
-regression_printed law task words told before after first second text status result command on same taken b r base revision old printed B R review told_b told_r text_b text_r was is done =
-    let whole : result ≢ 7 = λ e. not_seven result done e in
-    regression_holds law task words told before after first second text status command on (λ s. taken whole) b r base revision old printed B R review told_b told_r text_b text_r was is (sym (same whole) ∙ done)
+pub regression_printed : RegressionsHold → AskOnce → (request : Request) (words : List Word) (told : Word → Option (List ℕ)) (before after : Option (List ℕ)) (text : List ℕ) (status result : ℕ) →
+    Asks words request → Does told request text status → (result ≢ 7 → result ≡ status) → (result ≢ 7 → Appended before text after) → RegressionHolds words told before after result
+regression_printed law once request words told before after text status result asks done same taken b r base revision old printed B R review_is told_b told_r text_b text_r was is two =
+    let whole : result ≢ 7 = λ e. not_seven result two e in
+    regression_holds law once request words told before after text status asks done (λ s. taken whole) b r base revision old printed B R review_is told_b told_r text_b text_r was is (sym (same whole) ∙ two)
   where
     not_seven : (n : ℕ) → n ≡ 2 → n ≡ 7 → ⊥
     not_seven n two seven = absurd (cc)

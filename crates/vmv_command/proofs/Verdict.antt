@@ -1,8 +1,7 @@
 -- A printed verdict is right.
-use Rattle.std.proofs.Common.{◌≡◌, ◌≢◌, ◌⊎◌, inl, inr, ⊎_elim, ℕ, ◌+◌, nat_lt, nat_eq, ◌==◌, eqb, Bool, true, false, if◌then◌else◌, MatchBool, Option, Some, None, List, [], ◌∷◌, ◌++◌, length, take, codes, refl, sym, ap, subst, arith, append_assoc, append-nil, ◌≤◌, ◌∙◌}
-use Rattle.std.proofs.lemmas.Bool.{eqb-true, false≢true}
+use Rattle.std.proofs.Common.{◌≡◌, ◌≢◌, ◌⊎◌, inl, inr, ⊎_elim, ℕ, nat_lt, nat_eq, eqb, Bool, true, false, MatchBool, Option, Some, List, [], ◌∷◌, ◌++◌, length, take, codes, refl, sym, ap, subst, arith, append-nil, ◌≤◌, ◌∙◌}
+use Rattle.std.proofs.lemmas.Bool.{eqb-true}
 use Rattle.std.specs.List.{starts_with}
-use Rattle.std.specs.Str.{bytes_eq}
 use Rattle.std.proofs.lemmas.List.{length-take, take-take, take_all}
 use Rattle.std.proofs.lemmas.Slice.Eq.{bytes_eq-Decides}
 use Rattle.vmv_tree.specs.Tree.{Item}
@@ -11,16 +10,14 @@ use Rattle.vmv_snapshot.specs.Resolution.{Resolution, IsResolution, tree_of}
 use Rattle.vmv_text.specs.Grammar.{IsText}
 use Rattle.vmv_text.proofs.OneTree.{text_once}
 use Rattle.vmv_edge.specs.Outside.{IsAsTold, Appended, AppendedFront}
-use Rattle.vmv_command.specs.declared.task.Task.{Task}
-use Rattle.vmv_command.specs.declared.task.Task.TheVariants.{Review, Replay}
+use Rattle.vmv_words.specs.Words.{Word, Request, review, Asks}
 use Rattle.vmv_report.specs.declared.report.Report.{Report}
 use Rattle.vmv_report.specs.Texts.{line, report_text}
 use Rattle.vmv_report.specs.Reports.{IsReport}
 use Rattle.vmv_command.specs.Reviews.{ReviewsPrograms}
-use Rattle.vmv_source.specs.declared.fault.TextFault.{TextFault}
-use Rattle.vmv_source.specs.declared.fault.TextFault.TheVariants.{TooLong}
-use Rattle.vmv_command.specs.Faults.{SaysFault, fault_end}
-use Rattle.vmv_command.specs.Command.{text_most, IsReview, IsCommand, ReviewsTexts, OnFiles, OnTold, SaysRelativelyCorrect, VerdictHolds}
+use Rattle.vmv_command.specs.Lines.{SaysTooLong, too_long_end}
+use Rattle.vmv_command.specs.Faults.{fault_end}
+use Rattle.vmv_command.specs.Command.{text_most, ReviewsTexts, OnFile, Does, SaysRelativelyCorrect, VerdictHolds}
 
 -- what a front of a text begins with, the text begins with
 front_begins : (said : List ℕ) (n : ℕ) (text : List ℕ) → starts_with nat_eq (take n text) said ≡ true → starts_with nat_eq text said ≡ true
@@ -38,46 +35,48 @@ cases true P Q h = inl h
 cases false P Q h = inr h
 
 -- the line of a fault says something else
-fault_not_said : (name : List ℕ) (why : TextFault) (printed : List ℕ) (status : ℕ) → ((more : List ℕ) → starts_with nat_eq (name ++ more) (line (codes "verdict relatively correct")) ≡ false) →
-    SaysFault name why printed status → SaysRelativelyCorrect printed → ⊥
-fault_not_said name why printed status other says said = not_said (name ++ fault_end why) printed says.0 (other (fault_end why)) said
+base_not_said : (more printed : List ℕ) → printed ≡ codes "base" ++ more → SaysRelativelyCorrect printed → ⊥
+base_not_said more printed is said = not_said (codes "base" ++ more) printed is refl said
 
-base_not_said : (why : TextFault) (printed : List ℕ) (status : ℕ) → SaysFault (codes "base") why printed status → SaysRelativelyCorrect printed → ⊥
-base_not_said why printed status says said = fault_not_said (codes "base") why printed status (λ more. refl) says said
-
-revision_not_said : (why : TextFault) (printed : List ℕ) (status : ℕ) → SaysFault (codes "revision") why printed status → SaysRelativelyCorrect printed → ⊥
-revision_not_said why printed status says said = fault_not_said (codes "revision") why printed status (λ more. refl) says said
+revision_not_said : (more printed : List ℕ) → printed ≡ codes "revision" ++ more → SaysRelativelyCorrect printed → ⊥
+revision_not_said more printed is said = not_said (codes "revision" ++ more) printed is refl said
 
 -- a report with verdict 1 holds, and no other text says that the revision is relatively correct
 pub record VerdictsHold : Type 0 where
   pub holds : (base revision : Resolution) (report : Report) → IsResolution base → IsResolution revision → IsReport base revision report → report.verdict ≡ 1 → RelCorrect (tree_of base) (tree_of revision)
-  pub said : (base revision : Resolution) (report : Report) → IsReport base revision report → SaysRelativelyCorrect (report_text report base revision) → report.verdict ≡ 1
+  pub said : (base revision : Resolution) (report : Report) (more : List ℕ) → IsReport base revision report → SaysRelativelyCorrect (report_text report base revision ++ more) → report.verdict ≡ 1
 
 programs_correct : VerdictsHold → (B R : List Item) (printed : List ℕ) (status : ℕ) → ReviewsPrograms B R printed status → SaysRelativelyCorrect printed → RelCorrect B R
 programs_correct law B R printed status h said =
-    let verdict = law.said h.base_code h.revision_code h.report h.report_is (subst SaysRelativelyCorrect h.text said) in
+    let verdict = law.said h.base_code h.revision_code h.report [] h.report_is (subst SaysRelativelyCorrect (h.text ∙ sym (append-nil (report_text h.report h.base_code h.revision_code))) said) in
     let correct = law.holds h.base_code h.revision_code h.report h.base_is.resolution h.revision_is.resolution h.report_is verdict in
     subst (λ (P : List Item). RelCorrect P R) h.base_is.tree (subst (λ (P : List Item). RelCorrect (tree_of h.base_code) P) h.revision_is.tree correct)
 
 texts_correct : VerdictsHold → (base revision : List ℕ) (B R : List Item) (printed : List ℕ) (status : ℕ) → ReviewsTexts base revision printed status → IsText base B → IsText revision R →
     SaysRelativelyCorrect printed → RelCorrect B R
-texts_correct law base revision B R printed status (inl (why, has, says)) text text' said = absurd (base_not_said why printed status says said)
-texts_correct law base revision B R printed status (inr (C, source, (inl (why, has, says)))) text text' said = absurd (revision_not_said why printed status says said)
+texts_correct law base revision B R printed status (inl (why, has, says)) text text' said = absurd (base_not_said (fault_end why) printed says.0 said)
+texts_correct law base revision B R printed status (inr (C, source, (inl (why, has, says)))) text text' said = absurd (revision_not_said (fault_end why) printed says.0 said)
 texts_correct law base revision B R printed status (inr (C, source, (inr (P, source', reviews)))) text text' said =
     subst (λ (Q : List Item). RelCorrect Q R) (text_once base C B source.0 text)
     (subst (λ (Q : List Item). RelCorrect C Q) (text_once revision P R source'.0 text') (programs_correct law C P printed status reviews said))
 
-files_correct : VerdictsHold → (base revision : List ℕ) (B R : List Item) (printed : List ℕ) (status : ℕ) → OnFiles Review base revision printed status → IsText base B → IsText revision R →
-    SaysRelativelyCorrect printed → RelCorrect B R
-files_correct law base revision B R printed status h text text' said =
+-- of a text that is told, what is done with it, or the line of one that is too long
+pub on_told : (told : Word → Option (List ℕ)) (name called : List ℕ) (most : ℕ) (Next : List ℕ → List ℕ → ℕ → Type 0) (text printed : List ℕ) (status : ℕ) → told name ≡ Some text
+    → OnFile told name called most Next printed status → SaysTooLong called most printed status ⊎ Next text printed status
+on_told told name called most Next text printed status is (read, as_told, branch) =
+    let same : read ≡ text = subst (λ (t : Option (List ℕ)). IsAsTold t read) is as_told in
+    subst (λ (t : List ℕ). SaysTooLong called most printed status ⊎ Next t printed status) same (cases (nat_lt most (length read)) _ _ branch)
+
+files_correct : VerdictsHold → (told : Word → Option (List ℕ)) (base_name revision_name base revision : List ℕ) (B R : List Item) (printed : List ℕ) (status count : ℕ) (proved : Bool) → told base_name ≡ Some base
+    → told revision_name ≡ Some revision → Does told (review base_name revision_name count proved) printed status → IsText base B → IsText revision R → SaysRelativelyCorrect printed → RelCorrect B R
+files_correct law told base_name revision_name base revision B R printed status count proved told_b told_r done text text' said =
     ⊎_elim
-    (λ (long : SaysFault (codes "base") (TooLong (text_most + 1)) printed status). absurd (base_not_said (TooLong (text_most + 1)) printed status long said))
-    (λ (short : MatchBool (nat_lt text_most (length revision)) (SaysFault (codes "revision") (TooLong (text_most + 1)) printed status) (ReviewsTexts base revision printed status)).
-    ⊎_elim
-    (λ (long : SaysFault (codes "revision") (TooLong (text_most + 1)) printed status). absurd (revision_not_said (TooLong (text_most + 1)) printed status long said))
+    (λ (long : SaysTooLong (codes "base") text_most printed status). absurd (base_not_said (too_long_end text_most) printed long.0 said))
+    (λ (read : OnFile told revision_name (codes "revision") text_most (ReviewsTexts base) printed status). ⊎_elim
+    (λ (long : SaysTooLong (codes "revision") text_most printed status). absurd (revision_not_said (too_long_end text_most) printed long.0 said))
     (λ (both : ReviewsTexts base revision printed status). texts_correct law base revision B R printed status both text text' said)
-    (cases (nat_lt text_most (length revision)) _ _ short))
-    (cases (nat_lt text_most (length base)) _ _ h)
+    (on_told told revision_name (codes "revision") text_most (ReviewsTexts base) revision printed status told_r read))
+    (on_told told base_name (codes "base") text_most (λ b. OnFile told revision_name (codes "revision") text_most (ReviewsTexts b)) base printed status told_b done)
 
 -- what was printed is a front of the text
 abbrev pub IsFront : List ℕ → List ℕ → Type 0
@@ -92,54 +91,18 @@ told_front before after old printed text was is (n, h) =
     let h' : Appended (Some old) (take n text) (Some (old ++ printed)) = rw (was, is) at h in
     (n, append_same old printed (take n text) h')
 
--- the words of a review tell its names
-pub second_word : (x y z w : List ℕ) → ◌≡◌ {A = List (List ℕ)} (codes "review" ∷ x ∷ y ∷ []) (codes "review" ∷ z ∷ w ∷ []) → x ≡ z
-second_word x y z w e = cc
+-- words ask for one thing
+abbrev pub AskOnce : Type 0
+AskOnce = (words : List Word) (one other : Request) → Asks words one → Asks words other → one ≡ other
 
-pub third_word : (x y z w : List ℕ) → ◌≡◌ {A = List (List ℕ)} (codes "review" ∷ x ∷ y ∷ []) (codes "review" ∷ z ∷ w ∷ []) → y ≡ w
-third_word x y z w e = cc
-
--- whatever front of a review was printed, the verdict that it says holds
-review_holds : VerdictsHold → (words : List (List ℕ)) (told : List ℕ → Option (List ℕ)) (before after : Option (List ℕ)) (base_name revision_name text : List ℕ) (status : ℕ) →
-    IsReview words base_name revision_name → OnTold Review (told base_name) (told revision_name) text status → AppendedFront before text after →
-    VerdictHolds words told before after
-review_holds law words told before after base_name revision_name text status review (read_base, read_revision, base_told, revision_told, reviews) taken
-    b r base revision old printed B R review' told_b told_r text_b text_r was is said =
-    let words_same = sym review.words_are ∙ review'.words_are in
-    let told_b' : told base_name ≡ Some base = ap told (second_word base_name revision_name b r words_same) ∙ told_b in
-    let told_r' : told revision_name ≡ Some revision = ap told (third_word base_name revision_name b r words_same) ∙ told_r in
-    let base_is : read_base ≡ base = subst (λ (t : Option (List ℕ)). IsAsTold t read_base) told_b' base_told in
-    let revision_is : read_revision ≡ revision = subst (λ (t : Option (List ℕ)). IsAsTold t read_revision) told_r' revision_told in
+-- whatever front of the output was printed, the verdict that it says holds
+pub verdict_holds : VerdictsHold → AskOnce → (request : Request) (words : List Word) (told : Word → Option (List ℕ)) (before after : Option (List ℕ)) (text : List ℕ) (status : ℕ) →
+    Asks words request → Does told request text status → AppendedFront before text after → VerdictHolds words told before after
+verdict_holds law once request words told before after text status asks done taken b r base revision old printed B R (count, proved, asks') told_b told_r text_b text_r was is said =
+    let same : request ≡ review b r count proved = once words request (review b r count proved) asks asks' in
     let front = told_front before after old printed text was is taken in
     let said' : SaysRelativelyCorrect text = front_begins (line (codes "verdict relatively correct")) front.0 text (subst SaysRelativelyCorrect front.1 said) in
-    files_correct law read_base read_revision B R text status reviews (subst (λ (t : List ℕ). IsText t B) (sym base_is) text_b) (subst (λ (t : List ℕ). IsText t R) (sym revision_is) text_r) said'
-  where
-    second_word : (x y z w : List ℕ) → ◌≡◌ {A = List (List ℕ)} (codes "review" ∷ x ∷ y ∷ []) (codes "review" ∷ z ∷ w ∷ []) → x ≡ z
-    second_word x y z w e = cc
-
-    third_word : (x y z w : List ℕ) → ◌≡◌ {A = List (List ℕ)} (codes "review" ∷ x ∷ y ∷ []) (codes "review" ∷ z ∷ w ∷ []) → y ≡ w
-    third_word x y z w e = cc
-
--- no words are those of a replay and of a review
-pub not_both : (words : List (List ℕ)) (first second b r : List ℕ) → IsCommand Replay words first second → IsReview words b r → ⊥
-not_both words first second b r command review =
-    let same : codes "replay" ≡ codes "review" = heads (codes "replay") (codes "review") (first ∷ second ∷ []) (b ∷ r ∷ []) (sym command.words_are ∙ review.words_are) in
-    let yes : bytes_eq (codes "replay") (codes "review") ≡ true = (bytes_eq-Decides (codes "replay") (codes "review")).1 same in
-    false≢true yes
-  where
-    heads : (x y : List ℕ) (xs ys : List (List ℕ)) → ◌≡◌ {A = List (List ℕ)} (x ∷ xs) (y ∷ ys) → x ≡ y
-    heads x y xs ys e = cc
-
--- so no verdict is said there
-replay_holds : (words : List (List ℕ)) (told : List ℕ → Option (List ℕ)) (before after : Option (List ℕ)) (first second : List ℕ) → IsCommand Replay words first second →
-    VerdictHolds words told before after
-replay_holds words told before after first second command b r base revision old printed B R review = absurd (not_both words first second b r command review)
-
--- the same of any command
-pub verdict_holds : VerdictsHold → (task : Task) (words : List (List ℕ)) (told : List ℕ → Option (List ℕ)) (before after : Option (List ℕ)) (first second text : List ℕ) (status : ℕ) →
-    IsCommand task words first second → OnTold task (told first) (told second) text status → AppendedFront before text after → VerdictHolds words told before after
-verdict_holds law Review words told before after first second text status command on taken = review_holds law words told before after first second text status command on taken
-verdict_holds law Replay words told before after first second text status command on taken = replay_holds words told before after first second command
+    files_correct law told b r base revision B R text status count proved told_b told_r (subst (λ (q : Request). Does told q text status) same done) text_b text_r said'
 
 -- where nothing was printed, no verdict was
 pub nothing_said : (before : Option (List ℕ)) (old printed : List ℕ) → before ≡ Some old → before ≡ Some (old ++ printed) → SaysRelativelyCorrect printed → ⊥

@@ -1,5 +1,5 @@
 -- The lines that tell what is against a text, and their statuses.
-use Rattle.std.specs.Prelude.{◌≡◌, ◌≢◌, ℕ, nat_le, ◌==◌, List, [], ◌++◌, codes, if◌then◌else◌}
+use Rattle.std.specs.Prelude.{◌≡◌, ◌≢◌, ◌⊎◌, ℕ, nat_le, ◌==◌, List, [], ◌++◌, codes, if◌then◌else◌}
 use Rattle.std.specs.Fmt.{decimal}
 use Rattle.vmv_tree.specs.declared.defect.Defect.{Defect}
 use Rattle.vmv_tree.specs.declared.defect.Defect.TheVariants.{UnknownName, Repeated, ArityWrong, IndexAssigned, RangeEmpty, Limit}
@@ -71,3 +71,8 @@ HasWhy text why = IsTextFault text why × (why ≢ fault.Memory)
 -- the text is that of this valid program
 abbrev pub IsSource : List ℕ → List Item → Type 0
 IsSource text program = IsText text program × Valid program
+
+-- what is done with the program of the text that is called so, or the line of the first fault of the text
+abbrev pub OnProgram : (called text : List ℕ) → (List Item → List ℕ → ℕ → Type 0) → List ℕ → ℕ → Type 0
+OnProgram called text Next printed status =
+    ((why : TextFault) × HasWhy text why × SaysFault called why printed status) ⊎ ((program : List Item) × IsSource text program × Next program printed status)

@@ -1,6 +1,7 @@
 pub mod Lines
-pub mod Reviews
 pub mod Faults
+pub mod Reviews
+pub mod Baselines
 pub mod Replays
 pub mod Command
 pub mod Regressions

@@ -1,5 +1,5 @@
 -- Lines of output.
-use Rattle.std.specs.Prelude.{◌≡◌, ℕ, List, ◌++◌, codes}
+use Rattle.std.specs.Prelude.{◌≡◌, ℕ, ◌+◌, List, ◌++◌, codes}
 use Rattle.std.specs.Fmt.{decimal}
 use Rattle.vmv_report.specs.Texts.{line}
 
@@ -10,3 +10,11 @@ IsLine text meant printed status = (printed ≡ line text) × (status ≡ meant)
 -- behind the name of a site's procedure
 abbrev pub site_end : ℕ → List ℕ
 site_end site = line (codes "#" ++ decimal site)
+
+-- the line of a text that is longer than it may be, behind what it is called: one byte more was found
+abbrev pub too_long_end : ℕ → List ℕ
+too_long_end most = codes ": limit bytes found " ++ (decimal (most + 1) ++ (codes " most " ++ line (decimal most)))
+
+-- that line of the text that is called so, and its status
+abbrev pub SaysTooLong : (called : List ℕ) (most : ℕ) → List ℕ → ℕ → Type 0
+SaysTooLong called most printed status = (printed ≡ called ++ too_long_end most) × (status ≡ 5)

@@ -6,7 +6,6 @@ use Rattle.vmv_tree.specs.declared.site.NamedSite.{NamedSite}
 use Rattle.vmv_tree.specs.Tree.{Item}
 use Rattle.vmv_snapshot.specs.declared.code.ProcId.{ProcId}
 use Rattle.vmv_snapshot.specs.declared.code.SiteId.{SiteId}
-use Rattle.vmv_source.specs.declared.fault.TextFault.{TextFault}
 use Rattle.vmv_run.specs.declared.outcome.Outcome.{Outcome}
 use Rattle.vmv_run.specs.declared.outcome.Outcome.TheVariants.{Done, Fail, Short, Stranger, Extra}
 use Rattle.vmv_run.specs.Replay.{pairs, IsProcName, IsReplay}
@@ -20,7 +19,7 @@ use Rattle.vmv_witness.specs.Faults.{IsWhy}
 use Rattle.vmv_witness.specs.Fit.{words_of, Fits}
 use Rattle.vmv_report.specs.Texts.{line}
 use Rattle.vmv_command.specs.Lines.{IsLine, site_end}
-use Rattle.vmv_command.specs.Faults.{SaysFault, HasWhy, IsSource}
+use Rattle.vmv_command.specs.Faults.{OnProgram}
 
 -- what the line of a fault has behind `witness`; want of memory has no line
 abbrev pub witness_fault_end : WitnessFault → List ℕ
@@ -95,11 +94,12 @@ ReplaysWitness program witness printed status =
     ((why : Unfit) × Fits program witness (Err why) × SaysUnfit why printed status)
     ⊎ ((entry : ProcId) × Fits program witness (Ok entry) × ReplaysEntry program witness printed status)
 
--- the replay of two texts that aren't too long: the first fault of the revision, or else that of the witness, or else
--- the replay of the witness over the program
+-- the replay of a witness text over a valid program: the line of the text's fault, or else the replay of the witness
+abbrev pub ReplaysText : List ℕ → List Item → List ℕ → ℕ → Type 0
+ReplaysText witness program printed status =
+    ((why : WitnessFault) × HasWitnessWhy witness why × SaysWitnessFault why printed status)
+    ⊎ ((w : Witness) × IsTextOf witness w × ReplaysWitness program w printed status)
+
+-- the replay of two texts
 abbrev pub ReplaysTexts : (revision witness : List ℕ) → List ℕ → ℕ → Type 0
-ReplaysTexts revision witness printed status =
-    ((why : TextFault) × HasWhy revision why × SaysFault (codes "revision") why printed status)
-    ⊎ ((R : List Item) × IsSource revision R ×
-    (((why : WitnessFault) × HasWitnessWhy witness why × SaysWitnessFault why printed status)
-    ⊎ ((w : Witness) × IsTextOf witness w × ReplaysWitness R w printed status)))
+ReplaysTexts revision witness printed status = OnProgram (codes "revision") revision (ReplaysText witness) printed status

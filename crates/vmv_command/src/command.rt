@@ -1,19 +1,37 @@
-ghost use Rattle.std.specs.Prelude.{◌≡◌, ◌≢◌, ◌⊎◌, ◌≤◌, ℕ, List, [], map};
+ghost use Rattle.std.specs.Prelude.{◌≡◌, ◌≢◌, ◌⊎◌, ℕ, List, [], map, IfOk, IsErrOf};
 ghost use Rattle.std.specs.String.{string_bytes};
-ghost use Rattle.vmv_command.specs.Command.{IsNoCommand, IsWhole, Outputs, VerdictHolds};
+ghost use Rattle.vmv_words.specs.Words.{AsksNothing};
+ghost use Rattle.vmv_words.specs.Requests.{request_of};
+ghost use Rattle.vmv_command.specs.Command.{IsWhole, Does, Outputs, VerdictHolds};
 ghost use Rattle.vmv_command.specs.Regressions.{RegressionHolds};
 ghost use Rattle.vmv_edge.specs.Outside.{Rose, Appended, AppendedFront};
 
-use crate::output::{Stop, print};
-use crate::texts::output_of_names;
-use crate::words::command_words;
+use crate::baselines::baseline_file;
+use crate::output::{Output, Stop, print};
+use crate::replays::replay_files;
+use crate::review::review_files;
 use std::alloc::Global;
 use std::thread::Threads;
 use vmv_edge::{Door, Shelf, Sink, Vault};
 use vmv_report::{correct_verdicts_hold, only_correct_reports_say_so, regressing_reports_show_it};
+use vmv_words::{Request, read_words, words_ask_for_one_thing};
 
 const USAGE: &[u8] =
     b"usage: vmv review BASE REV [--workers N] [--proof] | baseline BASE [--workers N] | recheck BASE REV PROOF | replay REV WITNESS | sample NUMBER [--workers N] | serve ADDRESS STORE COUNT [--workers N]\n";
+
+// The output of what is asked for.
+fn output_of<F: Shelf>(alloc: Global, shelf: &mut F, request: &Request) -> Result<Output, Stop>
+    ensures output { IfOk result (λ output. Does (F.told shelf.old) (request_of request.now) output.text output.status) }
+    ensures failed { IsErrOf result Stop.Failed → Rose (F.fault_count shelf.old) (F.fault_count shelf.new) }
+    ensures stands { ¬ (IsErrOf result Stop.Failed) → F.fault_count shelf.new ≡ F.fault_count shelf.old }
+{
+    match request {
+        Request::Review { base, revision, .. } => review_files(alloc, shelf, *base, *revision),
+        Request::Baseline { base, .. } => baseline_file(alloc, shelf, *base),
+        Request::Recheck { .. } => Ok(Output::of(alloc, USAGE, 9)?),
+        Request::Replay { revision, witness } => replay_files(alloc, shelf, *revision, *witness),
+    }
+}
 
 /// Does the command that the words say, and gives its status: for a review 0 where the revision is relatively correct to the
 /// base, 1 where there are alarms, 2 where there is a regression, and 3 where the base is vacuous; for a replay 0 where the
@@ -32,7 +50,7 @@ pub fn run<R: Threads + Sync, F: Shelf, O: Sink, V: Vault, D: Door>(
     _door: &mut D,
 ) -> u8
     ensures output { IsWhole result → (printed : List ℕ) × Outputs (map string_bytes words.now) (F.told shelf.old) printed result × Appended (O.taken out.old) printed (O.taken out.new) }
-    ensures usage { IsNoCommand (map string_bytes words.now) → (result ≡ 9) ⊎ (result ≡ 7) }
+    ensures usage { AsksNothing (map string_bytes words.now) → (result ≡ 9) ⊎ (result ≡ 7) ⊎ (result ≡ 8) }
     ensures shelf_failed { result ≡ 6 → Rose (F.fault_count shelf.old) (F.fault_count shelf.new) }
     ensures shelf_stands { result ≢ 6 → F.fault_count shelf.new ≡ F.fault_count shelf.old }
     ensures nothing { (result ≡ 6) ⊎ (result ≡ 8) → Appended (O.taken out.old) [] (O.taken out.new) }
@@ -43,13 +61,16 @@ pub fn run<R: Threads + Sync, F: Shelf, O: Sink, V: Vault, D: Door>(
     ensures relatively_correct { VerdictHolds (map string_bytes words.now) (F.told shelf.old) (O.taken out.old) (O.taken out.new) }
     ensures regression { RegressionHolds (map string_bytes words.now) (F.told shelf.old) (O.taken out.old) (O.taken out.new) result }
 {
-    let Some(command) = command_words(words) else {
-        return print(out, USAGE, 9);
-    };
     correct_verdicts_hold();
     only_correct_reports_say_so();
     regressing_reports_show_it();
-    match output_of_names(alloc, shelf, command.task, command.first, command.second) {
+    words_ask_for_one_thing();
+    let request = match read_words(alloc, words) {
+        Ok(Some(request)) => request,
+        Ok(None) => return print(out, USAGE, 9),
+        Err(_) => return 8,
+    };
+    match output_of(alloc, shelf, &request) {
         Ok(output) => print(out, output.text.bytes(), output.status),
         Err(Stop::Failed) => 6,
         Err(Stop::Memory) => 8,

@@ -1,14 +1,17 @@
 //! The commands of the program: from the words of the command line to the printed bytes and the status.
 #![tactic(auto)]
 
+mod baselines;
 mod command;
 mod faults;
+mod files;
 mod output;
 mod replays;
 mod review;
-mod task;
-mod texts;
-mod words;
 
 pub use command::run;
-pub use task::Task;
+
+// The most bytes that a text of a program or of a witness may have, as a number and as a size.
+pub(crate) const TEXT_MOST: u32 = 1_048_576;
+
+pub(crate) const TEXT_MOST_BYTES: usize = 1_048_576;

@@ -1,15 +1,19 @@
-ghost use Rattle.std.specs.Prelude.{◌≡◌, ◌≢◌, ◌++◌, ◌↔◌, map, Ok, IfOk, IsTrue, codes};
+ghost use Rattle.std.specs.Prelude.{◌≡◌, ◌≢◌, ◌++◌, ◌↔◌, map, Ok, IfOk, IsErrOf, IsTrue, codes};
 ghost use Rattle.std.specs.String.{string_bytes};
 ghost use Rattle.vmv_snapshot.specs.Resolution.{tree_of};
 ghost use Rattle.vmv_witness.specs.Fit.{Fits};
 ghost use Rattle.vmv_report.specs.Texts.{line};
 ghost use Rattle.vmv_command.specs.Lines.{IsLine, site_end};
-ghost use Rattle.vmv_command.specs.Replays.{witness_fault_end, witness_fault_status, SaysWitnessFault, unfit_number, SaysUnfit, HasProc, FailsInside, IsCalled, SaysFails, SaysOutcome, ReplaysEntry, ReplaysWitness, ReplaysTexts};
+ghost use Rattle.vmv_command.specs.Replays.{witness_fault_end, witness_fault_status, SaysWitnessFault, unfit_number, SaysUnfit, HasProc, FailsInside, IsCalled, SaysFails, SaysOutcome, ReplaysEntry, ReplaysWitness, ReplaysText, ReplaysTexts};
+ghost use Rattle.vmv_edge.specs.Outside.{Rose};
+ghost use Rattle.vmv_command.specs.Command.{text_most, OnFile};
 
 use crate::faults::fault_output;
-use crate::output::Output;
+use crate::files::{read_text, too_long};
+use crate::output::{Output, Stop};
+use crate::{TEXT_MOST, TEXT_MOST_BYTES};
 use std::alloc::{AllocError, Global};
-use vmv_edge::Text;
+use vmv_edge::{Shelf, Text};
 use vmv_run::{Outcome, replay};
 use vmv_snapshot::{ProcId, SiteId, Snapshot};
 use vmv_source::parse;
@@ -182,21 +186,42 @@ fn replay_witness(
     }
 }
 
-/// The replay of two texts that aren't too long.
-pub(crate) fn replay_texts(
-    alloc: Global,
-    revision: &Text,
-    witness: &Text,
-) -> Result<Output, AllocError>
+// The replay of a witness text over a valid program.
+fn replay_text(alloc: Global, snapshot: &Snapshot, witness: &Text) -> Result<Output, AllocError>
+    ensures { IfOk result (λ output. ReplaysText witness.now (tree_of snapshot.now) output.text output.status) }
+{
+    match read_witness(alloc, witness.bytes()) {
+        Ok(witness) => replay_witness(alloc, snapshot, &witness),
+        Err(fault) => witness_fault_output(alloc, fault),
+    }
+}
+
+// The replay of two texts.
+fn replay_texts(alloc: Global, revision: &Text, witness: &Text) -> Result<Output, AllocError>
     ensures { IfOk result (λ output. ReplaysTexts revision.now witness.now output.text output.status) }
 {
-    let revision = match parse(alloc, revision.bytes()) {
-        Ok(revision) => revision,
-        Err(fault) => return fault_output(alloc, "revision", fault),
+    match parse(alloc, revision.bytes()) {
+        Ok(revision) => replay_text(alloc, &revision, witness),
+        Err(fault) => fault_output(alloc, "revision", fault),
+    }
+}
+
+/// The replay of the texts under two names.
+pub(crate) fn replay_files<F: Shelf>(
+    alloc: Global,
+    shelf: &mut F,
+    revision: &str,
+    witness: &str,
+) -> Result<Output, Stop>
+    ensures output { IfOk result (λ output. OnFile (F.told shelf.old) revision.now (codes "revision") text_most (λ r. OnFile (F.told shelf.old) witness.now (codes "witness") text_most (ReplaysTexts r)) output.text output.status) }
+    ensures failed { IsErrOf result Stop.Failed → Rose (F.fault_count shelf.old) (F.fault_count shelf.new) }
+    ensures stands { ¬ (IsErrOf result Stop.Failed) → F.fault_count shelf.new ≡ F.fault_count shelf.old }
+{
+    let Some(revision) = read_text(alloc, shelf, revision, TEXT_MOST_BYTES)? else {
+        return Ok(too_long(alloc, "revision", TEXT_MOST)?);
     };
-    let witness = match read_witness(alloc, witness.bytes()) {
-        Ok(witness) => witness,
-        Err(fault) => return witness_fault_output(alloc, fault),
+    let Some(witness) = read_text(alloc, shelf, witness, TEXT_MOST_BYTES)? else {
+        return Ok(too_long(alloc, "witness", TEXT_MOST)?);
     };
-    replay_witness(alloc, &revision, &witness)
+    Ok(replay_texts(alloc, &revision, &witness)?)
 }
