@@ -12,7 +12,8 @@ use Rattle.vmv_thresholds.specs.Thresholds.{AreThresholds}
 use Rattle.vmv_need.specs.declared.subject.Scope.{Scope}
 use Rattle.vmv_need.specs.declared.candidate.Candidate.{Candidate}
 use Rattle.vmv_need.specs.Acts.{Meets, Acts}
-use Rattle.vmv_need.specs.Plan.{HaveThresholds, IsEntryWithin}
+use Rattle.vmv_need.specs.Thresholds.{HaveThresholds}
+use Rattle.vmv_need.specs.Plan.{IsEntryWithin}
 use Rattle.vmv_need.proofs.Kept.{kept_once}
 
 map_entry : (items : List Item) (n : ℕ) (item : Item) → slice_get items n ≡ Some item → slice_get (map is_entry items) n ≡ Some (is_entry item)

@@ -15,15 +15,15 @@ use Rattle.vmv_need.specs.Candidates.{entries_from, IsScopeOf}
 use Rattle.vmv_need.specs.Plan.{AreFirst}
 use Rattle.vmv_need.proofs.Lists.{none_in}
 
-take_at : {A : Type 0} (xs : List A) (n : ℕ) (x : A) → slice_get xs n ≡ Some x → take (suc n) xs ≡ take n xs ++ x ∷ []
+pub take_at : {A : Type 0} (xs : List A) (n : ℕ) (x : A) → slice_get xs n ≡ Some x → take (suc n) xs ≡ take n xs ++ x ∷ []
 take_at [] n x e = absurd (cc)
 take_at (y ∷ xs) zero x e = let same : y ≡ x = cc in ap (λ (z : _). z ∷ []) same
 take_at (y ∷ xs) (suc n) x e = ap (λ (zs : List _). y ∷ zs) (take_at xs n x e)
 
-take_more : {A : Type 0} (xs : List A) (n : ℕ) (x : A) → slice_get xs n ≡ Some x → take (n + 1) xs ≡ take n xs ++ x ∷ []
+pub take_more : {A : Type 0} (xs : List A) (n : ℕ) (x : A) → slice_get xs n ≡ Some x → take (n + 1) xs ≡ take n xs ++ x ∷ []
 take_more xs n x e = rw add-one (take_at xs n x e)
 
-entries_push : (k : ℕ) (flags : List Bool) → entries_from k (flags ++ true ∷ []) ≡ entries_from k flags ++ (k + length flags) ∷ []
+pub entries_push : (k : ℕ) (flags : List Bool) → entries_from k (flags ++ true ∷ []) ≡ entries_from k flags ++ (k + length flags) ∷ []
 entries_push k [] = ap (λ (n : ℕ). n ∷ []) (omega arith)
 entries_push k (true ∷ flags) =
     let e : k + 1 + length flags ≡ k + length (true ∷ flags) = omega arith in
@@ -32,7 +32,7 @@ entries_push k (false ∷ flags) =
     let e : k + 1 + length flags ≡ k + length (false ∷ flags) = omega arith in
     entries_push (k + 1) flags ∙ ap (λ (n : ℕ). entries_from (k + 1) flags ++ n ∷ []) e
 
-entries_skip : (k : ℕ) (flags : List Bool) → entries_from k (flags ++ false ∷ []) ≡ entries_from k flags
+pub entries_skip : (k : ℕ) (flags : List Bool) → entries_from k (flags ++ false ∷ []) ≡ entries_from k flags
 entries_skip k [] = refl
 entries_skip k (true ∷ flags) = ap (λ (ns : List ℕ). k ∷ ns) (entries_skip (k + 1) flags)
 entries_skip k (false ∷ flags) = entries_skip (k + 1) flags
@@ -73,7 +73,7 @@ one_helper program n subjects first flag =
       demands = first.demands;
     }
 
-all_flags : (program : Resolution) → take (length (procs_of program)) (map is_entry (procs_of program)) ≡ map is_entry (procs_of program)
+pub all_flags : (program : Resolution) → take (length (procs_of program)) (map is_entry (procs_of program)) ≡ map is_entry (procs_of program)
 all_flags program =
     let same = length-map (procs_of program) is_entry in
     take_all (length (procs_of program)) (map is_entry (procs_of program)) (omega (arith, same))

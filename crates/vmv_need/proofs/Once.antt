@@ -23,7 +23,7 @@ cut_within a b c f piece k l =
     by_name {P = λ name. IsSubset (b name) (c name)} f (λ w h. (l.there w).1 ((k.there w).0 h))
     (λ name other w h. moved (b name) (c name) (k.elsewhere name other ∙ sym (l.elsewhere name other)) w h)
 
-cut_once : (a b c : Assumed) (f : Name) (piece : Piece) → IsCut a f piece b → IsCut a f piece c → b ≡ c
+pub cut_once : (a b c : Assumed) (f : Name) (piece : Piece) → IsCut a f piece b → IsCut a f piece c → b ≡ c
 cut_once a b c f piece k l = λ i name. same_words (b name) (c name) (cut_within a b c f piece k l name) (cut_within a c b f piece l k name) i
 
 -- the same exclusions, and the same assumption

@@ -1,4 +1,5 @@
 pub mod Candidates
+pub mod Thresholds
 pub mod Acts
 pub mod Rounds
 pub mod Vacuous

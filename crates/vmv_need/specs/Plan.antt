@@ -11,7 +11,6 @@ use Rattle.vmv_assumption.specs.Assumed.{Assumed, names_of}
 use Rattle.vmv_cert.specs.Tables.{Box, IsEntry, IsBoxIn}
 use Rattle.vmv_back.specs.Boxes.{AreBoxes}
 use Rattle.vmv_demands.specs.Demands.{AreDemands}
-use Rattle.vmv_thresholds.specs.Thresholds.{AreThresholds}
 use Rattle.vmv_forward.specs.Least.{IsLeastTable}
 use Rattle.vmv_need.specs.declared.subject.Subject.{Subject}
 use Rattle.vmv_need.specs.declared.subject.Scope.{Scope}
@@ -21,6 +20,7 @@ use Rattle.vmv_need.specs.declared.plan.Plan.{Plan}
 use Rattle.vmv_need.specs.declared.shown.ShownBy.{ShownBy}
 use Rattle.vmv_need.specs.declared.shown.ShownBy.TheVariants.{EmptyName, Doomed}
 use Rattle.vmv_need.specs.Candidates.{entries_from, IsScopeOf, candidates_of, places_of}
+use Rattle.vmv_need.specs.Thresholds.{HaveThresholds}
 use Rattle.vmv_need.specs.Vacuous.{IsDoomed, IsFirst}
 
 -- those of the entries among the first n procedures
@@ -28,16 +28,6 @@ pub record AreFirst (program : Resolution) (n : ℕ) (subjects : List Subject) :
   pub entries : map (λ (s : Subject). s.entry.0) subjects ≡ entries_from 0 (take n (map is_entry (procs_of program)))
   pub boxes : (s : Subject) → Contains subjects s → AreBoxes program s.entry.0 s.boxes
   pub demands : (s : Subject) → Contains subjects s → AreDemands program s.entry.0 s.demands
-
--- these are the thresholds of procedure n for these ends, where it is an entry
-abbrev pub AreThresholdsAt : Resolution → List NameEnds → ℕ → Option (List ℤ) → Type 0
-AreThresholdsAt program ends n found =
-    slice_get (map is_entry (procs_of program)) n ≡ Some true → (ts : List ℤ) × (found ≡ Some ts) × AreThresholds (tree_of program) n ends ts
-
--- the thresholds of each entry, by its number
-pub record HaveThresholds (program : Resolution) (ends : List NameEnds) (list : List (Option (List ℤ))) : Type 0 where
-  pub count : length list ≡ length (procs_of program)
-  pub each : (n : ℕ) (found : Option (List ℤ)) → slice_get list n ≡ Some found → AreThresholdsAt program ends n found
 
 -- the procedure is an entry, and the box lies in its parameters' ranges
 abbrev pub IsEntryWithin : Resolution → ℕ → Box → Type 0

@@ -4,7 +4,8 @@ ghost use Rattle.vmv_snapshot.specs.Resolution.{procs_of};
 ghost use Rattle.vmv_back.specs.Boxes.{AreBoxes};
 ghost use Rattle.vmv_demands.specs.Demands.{AreDemands};
 ghost use Rattle.vmv_need.specs.Candidates.{IsScopeOf};
-ghost use Rattle.vmv_need.specs.Plan.{AreFirst, AreThresholdsAt, HaveThresholds};
+ghost use Rattle.vmv_need.specs.Thresholds.{AreThresholdsAt, HaveThresholds};
+ghost use Rattle.vmv_need.specs.Plan.{AreFirst};
 
 use crate::subject::{Scope, Subject};
 use sqlite_items::Items;
@@ -16,7 +17,7 @@ use vmv_thresholds::Thresholds;
 use vmv_tree::Ends;
 
 /// The thresholds of each entry, by its number; a helper has none.
-pub(crate) type EntryThresholds = Vec<Option<Thresholds>>;
+pub type EntryThresholds = Vec<Option<Thresholds>>;
 
 /// An entry with its boxes and its demands.
 fn subject_of(alloc: Global, base: &Snapshot, entry: ProcId) -> Result<Subject, AllocError>
@@ -93,8 +94,8 @@ fn thresholds_at(
     }
 }
 
-/// The thresholds of each entry, for these ends.
-pub(crate) fn all_thresholds(
+/// The thresholds of each entry, for these ends. It fails for want of memory alone.
+pub fn all_thresholds(
     alloc: Global,
     base: &Snapshot,
     ends: &Ends,

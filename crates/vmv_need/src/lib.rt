@@ -19,6 +19,7 @@ mod vacuous;
 pub use candidate::Candidate;
 pub use cut::{Cut, Cuts};
 pub use finding::necessary;
+pub use gather::{EntryThresholds, all_thresholds};
 pub use laws::{
     a_program_has_one_scope, cuts_in_any_order_lead_to_the_necessary,
     necessary_conditions_are_unique, necessary_conditions_exist, rounds_end_in_the_necessary,

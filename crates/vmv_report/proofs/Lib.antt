@@ -3,6 +3,7 @@ pub mod Naming
 pub mod Placing
 pub mod Gathering
 pub mod Listing
+pub mod Reading
 pub mod Reporting
 pub mod Relating
 pub mod Saying

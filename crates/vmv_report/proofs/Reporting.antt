@@ -19,12 +19,11 @@ use Rattle.vmv_need.specs.Needed.{IsFound}
 use Rattle.vmv_check.proofs.Lists.{all_of}
 use Rattle.vmv_report.specs.declared.row.ReportRow.{ReportRow}
 use Rattle.vmv_report.specs.declared.report.Report.{Report}
-use Rattle.vmv_report.specs.Rows.{place_of, Review, AreRows, AreWitnesses}
+use Rattle.vmv_report.specs.Rows.{place_of, Review, AreRows}
 use Rattle.vmv_report.specs.Baselines.{Based, Suffices, IsEnoughFor, IsBaseline}
 use Rattle.vmv_report.specs.Reports.{vacuous_report, IsReviewed, Tells, IsReport}
 use Rattle.vmv_report.specs.Texts.{param_range}
-use Rattle.vmv_report.specs.declared.told.Told.{Told}
-use Rattle.vmv_report.specs.Work.{IsInside, AreInside, IsShownOf, AreTold}
+use Rattle.vmv_report.specs.Work.{IsInside, AreInside, IsShownOf}
 use Rattle.vmv_report.proofs.Placing.{entry_within, proc_within}
 
 -- the rows of a report name procedures of the revision
@@ -60,13 +59,16 @@ module _ (base revision : Resolution) (report : Report) where
 
 -- the report of a base that isn't vacuous
 pub reviewed_report : (based : Based) (revision : Resolution) (report : Report) (held : List (Name × Cond)) (cuts : List Cut) → IsBaseline based → based.needed ≡ Conditions held cuts →
-    ((ends : List NameEnds) → AreEnds based.base ends → IsReviewed revision ends held based.enough report) → IsReport based.base revision report
-reviewed_report based revision report held cuts (is, (scope, found)) e reviewed = record {
+    (ends : List NameEnds) → AreEnds based.base ends → IsReviewed revision ends held based.enough report → IsReport based.base revision report
+reviewed_report based revision report held cuts (is, (scope, found)) e ends are reviewed = record {
   scope = scope;
   needed = based.needed;
   enough = based.enough;
   found = found;
-  tells = let P : Needed → Type 0 = λ needed. Tells revision scope.ends needed based.enough report in subst P (sym e) (reviewed scope.ends found.scope_is.ends);
+  tells =
+      let P : Needed → Type 0 = λ needed. Tells revision scope.ends needed based.enough report in
+      let Q : List NameEnds → Type 0 = λ it. IsReviewed revision it held based.enough report in
+      subst P (sym e) (subst Q (are ∙ sym found.scope_is.ends) reviewed);
 }
 
 -- what was found to suffice for a base that isn't vacuous
@@ -92,14 +94,6 @@ put_five v n s r w {o0} {o1} {o2} {o3} {o4} e0 e1 e2 e3 e4 =
 pub if_ok : {A E : Type 0} {P Q : A → Type 0} (r : Result A E) → IfOk r P → ((a : A) → P a → Q a) → IfOk r Q
 if_ok (Ok a) h on = on a h
 if_ok (Err e) h on = h
-
--- the rows by the ends that were found are those by any ends of the base
-pub told_for : (base revision : Resolution) (needed : Assumed) (enough : Option (List (Name × Cond))) (found : List NameEnds) (told : Told) → AreEnds base found →
-    AreRows (record { revision = revision; ends = found; needed = needed; enough = enough }) told.rows → AreWitnesses (record { revision = revision; ends = found; needed = needed; enough = enough }) told.rows told.witnesses →
-    (ends : List NameEnds) → AreEnds base ends → AreTold (record { revision = revision; ends = ends; needed = needed; enough = enough }) told
-told_for base revision needed enough found told e rows runs ends e' =
-    let P : List NameEnds → Type 0 = λ it. AreTold (record { revision = revision; ends = it; needed = needed; enough = enough }) told in
-    subst P (e ∙ sym e') (record { rows = rows; witnesses = runs })
 
 -- where the one list or the other has ended, no pair is left to be written
 pub ranges_written : (params : List Param) (ranges : List (ℤ × ℤ)) (out all : List ℕ) → (params ≡ []) ⊎ (ranges ≡ []) → out ++ flat_map param_range (zip params ranges) ≡ all → out ≡ all

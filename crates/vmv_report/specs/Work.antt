@@ -1,5 +1,5 @@
 -- The order of the work. Private contracts alone cite these definitions.
-use Rattle.std.specs.Prelude.{◌≡◌, ◌≢◌, ◌↔◌, ◌⊎◌, ◌<◌, ◌≤◌, ℕ, Option, Some, None, List, [], ◌∷◌, ◌++◌, length, ⊤}
+use Rattle.std.specs.Prelude.{◌≡◌, ◌≢◌, ◌↔◌, ◌⊎◌, ◌<◌, ◌≤◌, ℕ, Option, Some, None, IfSome, List, [], ◌∷◌, ◌++◌, length, ⊤}
 use Rattle.std.specs.List.{All, AllPairs, Contains}
 use Rattle.vmv_tree.specs.declared.ends.NameEnds.{NameEnds}
 use Rattle.vmv_tree.specs.declared.site.NamedSite.{NamedSite}
@@ -15,6 +15,7 @@ use Rattle.vmv_enough.specs.Failures.{IsCounterexample}
 use Rattle.vmv_enough.specs.Found.{AreFound}
 use Rattle.vmv_need.specs.declared.shown.ShownBy.{ShownBy}
 use Rattle.vmv_need.specs.declared.shown.ShownBy.TheVariants.{EmptyName, Doomed}
+use Rattle.vmv_proving.specs.Shown.{AreShown}
 use Rattle.vmv_report.specs.declared.class.Class.{Class}
 use Rattle.vmv_report.specs.declared.class.Class.TheVariants.{Clean, Hidden, Regression, Alarm}
 use Rattle.vmv_report.specs.declared.row.ReportRow.{ReportRow}
@@ -39,11 +40,13 @@ IsShownOf program (Doomed entry within table) = entry.0 < length (procs_of progr
 abbrev pub review_of : Judging → Review
 review_of j = record { revision = j.revision.now; ends = j.ends.now; needed = cond_of j.needed.now; enough = j.enough.now }
 
--- the resolution is one, the first assumption is whole, and under the sufficient conditions each outside name has an answer
+-- the resolution is one, the first assumption is whole, under the sufficient conditions each outside name has an answer, and
+-- tables that have been made are those of the entries
 pub record IsReady (j : Judging) : Type 0 where
   pub is_resolution : IsResolution j.revision.now
   pub whole : (cond_of j.whole.now) ≡ (λ name. whole)
   pub nonempty : (held : List (Name × Cond)) → j.enough.now ≡ Some held → NoneEmpty j.revision.now (cond_of held)
+  pub shown : IfSome j.shown (λ list. AreShown j.revision.now j.ends.now (cond_of j.needed.now) list.now)
 
 -- the list has the sites that aren't provable for the entry of this number
 abbrev pub AreUnproved : Resolution → ℕ → List NameEnds → Assumed → List NamedSite → Type 0
@@ -96,8 +99,3 @@ pub record IsToldBefore (review : Review) (bound : Place) (told : Told) : Type 0
 
 abbrev pub at : ℕ → ℕ → ℕ → Place
 at entry proc index = record { entry = entry; proc = proc; index = index }
-
--- these are the rows, with a run for each regression
-pub record AreTold (review : Review) (told : Told) : Type 0 where
-  pub rows : AreRows review told.rows
-  pub witnesses : AreWitnesses review told.rows told.witnesses

@@ -1,10 +1,13 @@
-ghost use Rattle.std.specs.Prelude.{◌≡◌, List, None, IfOk};
-ghost use Rattle.vmv_tree.specs.declared.ends.NameEnds.{NameEnds};
+ghost use Rattle.std.specs.Prelude.{◌≡◌, List, IfOk, IfSome};
+ghost use Rattle.vmv_tree.specs.declared.name.Name.{Name};
+ghost use Rattle.vmv_cond.specs.declared.cond.Cond.{Cond};
 ghost use Rattle.vmv_assumption.specs.Assumed.{cond_of};
 ghost use Rattle.vmv_demands.specs.Ends.{AreEnds};
+ghost use Rattle.vmv_need.specs.declared.cut.Cut.{Cut as Recorded};
+ghost use Rattle.vmv_need.specs.declared.needed.Needed.TheVariants.{Conditions};
+ghost use Rattle.vmv_proving.specs.Shown.{AreShown};
 ghost use Rattle.vmv_report.specs.Rows.{verdict_of};
-ghost use Rattle.vmv_report.specs.Baselines.{Suffices};
-ghost use Rattle.vmv_report.specs.Work.{AreTold};
+ghost use Rattle.vmv_report.specs.Work.{IsReady};
 ghost use Rattle.vmv_report.specs.Reports.{vacuous_report, IsReviewed, IsReport};
 
 use crate::class::Class;
@@ -20,7 +23,9 @@ use std::alloc::{AllocError, Global};
 use vmv_assumption::Assumption;
 use vmv_demands::ends;
 use vmv_need::{Needed, ShownBy};
+use vmv_proof::Shown;
 use vmv_snapshot::Snapshot;
+use vmv_tree::Ends;
 
 /// The verdict of the rows.
 fn verdict_of(rows: &[ReportRow]) -> u8
@@ -35,31 +40,6 @@ fn verdict_of(rows: &[ReportRow]) -> u8
     1
 }
 
-/// The rows of a revision, with a run for each regression.
-fn judged_rows(
-    alloc: Global,
-    base: &Snapshot,
-    revision: &Snapshot,
-    needed: &Assumption,
-    enough: &Option<Assumption>,
-) -> Result<Told, AllocError>
-    requires { Suffices base.now needed.now enough.now }
-    ensures { IfOk result (λ told. (ends : List NameEnds) → AreEnds base.now ends → AreTold (record { revision = revision.now; ends = ends; needed = cond_of needed.now; enough = enough.now }) told) }
-{
-    let _ = revision.program();
-    let ends = ends(alloc, base)?;
-    let whole = Assumption::whole(alloc, base)?;
-    let judging = Judging {
-        revision,
-        ends: &ends,
-        whole: &whole,
-        needed,
-        enough,
-    };
-    let told = all_rows(alloc, &judging)?;
-    Ok(told)
-}
-
 /// Conditions that are the same, where there are some.
 fn copied(alloc: Global, enough: &Option<Assumption>) -> Result<Option<Assumption>, AllocError>
     ensures { IfOk result (λ copied. copied ≡ enough.now) }
@@ -71,23 +51,17 @@ fn copied(alloc: Global, enough: &Option<Assumption>) -> Result<Option<Assumptio
 }
 
 /// The report of a base that isn't vacuous.
-fn review(
-    alloc: Global,
-    base: &Snapshot,
-    revision: &Snapshot,
-    needed: &Assumption,
-    enough: &Option<Assumption>,
-) -> Result<Report, AllocError>
-    requires { Suffices base.now needed.now enough.now }
-    ensures { IfOk result (λ report. (ends : List NameEnds) → AreEnds base.now ends → IsReviewed revision.now ends needed.now enough.now report) }
+fn review(alloc: Global, judging: &Judging<'_>) -> Result<Report, AllocError>
+    requires { IsReady judging.now }
+    ensures { IfOk result (IsReviewed judging.now.revision.now judging.now.ends.now judging.now.needed.now judging.now.enough.now) }
 {
-    let conditions = needed.copy(alloc)?;
-    let sufficient = copied(alloc, enough)?;
+    let conditions = judging.needed.copy(alloc)?;
+    let sufficient = copied(alloc, judging.enough)?;
     let Told {
         rows,
         witnesses,
         ..
-    } = judged_rows(alloc, base, revision, needed, enough)?;
+    } = all_rows(alloc, judging)?;
     Ok(Report {
         verdict: verdict_of(rows.as_slice()),
         conditions: Some(conditions),
@@ -96,6 +70,34 @@ fn review(
         witnesses,
         shown_by: None,
     })
+}
+
+/// The report of a base with these necessary conditions, by the tables of the revision's entries where they have been made.
+fn reviewed(
+    alloc: Global,
+    baseline: &Baseline,
+    needed: &Assumption,
+    revision: &Snapshot,
+    ends: &Ends,
+    shown: Option<&[Shown]>,
+) -> Result<Report, AllocError>
+    requires needed { (cuts : List Recorded) × (baseline.now.needed ≡ Conditions needed.now cuts) }
+    requires ends { AreEnds baseline.now.base ends.now }
+    requires shown { IfSome shown (λ list. AreShown revision.now ends.now (cond_of needed.now) list.now) }
+    ensures { IfOk result (IsReport baseline.now.base revision.now) }
+{
+    let _ = revision.program();
+    let whole = Assumption::whole(alloc, baseline.base())?;
+    let judging = Judging {
+        revision,
+        ends,
+        whole: &whole,
+        needed,
+        enough: baseline.enough(),
+        shown,
+    };
+    let report = review(alloc, &judging)?;
+    Ok(report)
 }
 
 /// The report of a vacuous base.
@@ -119,13 +121,29 @@ pub fn judge(alloc: Global, baseline: &Baseline, revision: &Snapshot) -> Result<
 {
     match baseline.needed() {
         Needed::Conditions { assumption, .. } => {
-            review(
-                alloc,
-                baseline.base(),
-                revision,
-                assumption,
-                baseline.enough(),
-            )
+            let ends = ends(alloc, baseline.base())?;
+            reviewed(alloc, baseline, assumption, revision, &ends, None)
+        }
+        Needed::Vacuous { shown_by } => vacuous_report(alloc, shown_by),
+    }
+}
+
+/// What `judge` tells, by tables of the revision's entries that have been made: no table is made once more. The ends are those
+/// of the base's outside names. It fails for want of memory alone.
+pub fn judge_by(
+    alloc: Global,
+    baseline: &Baseline,
+    revision: &Snapshot,
+    ends: &Ends,
+    shown: &[Shown],
+) -> Result<Report, AllocError>
+    requires ends { AreEnds baseline.now.base ends.now }
+    requires shown { (held : List (Name × Cond)) (cuts : List Recorded) → baseline.now.needed ≡ Conditions held cuts → AreShown revision.now ends.now (cond_of held) shown.now }
+    ensures { IfOk result (IsReport baseline.now.base revision.now) }
+{
+    match baseline.needed() {
+        Needed::Conditions { assumption, .. } => {
+            reviewed(alloc, baseline, assumption, revision, ends, Some(shown))
         }
         Needed::Vacuous { shown_by } => vacuous_report(alloc, shown_by),
     }

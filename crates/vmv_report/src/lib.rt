@@ -18,7 +18,7 @@ mod told;
 pub use class::Class;
 pub use conds::{is_whole, is_zero_left_out};
 pub use finding::baseline;
-pub use judging::judge;
+pub use judging::{judge, judge_by};
 pub use kept::Baseline;
 pub use laws::{
     correct_verdicts_hold, only_correct_reports_say_so, regressing_reports_show_it,

@@ -1,5 +1,5 @@
 use Rattle.std.proofs.Common.{◌≡◌, ℕ, ℤ, Option, Some, List, length, slice_get}
-use Rattle.vmv_need.specs.Plan.{AreThresholdsAt}
+use Rattle.vmv_need.specs.Thresholds.{AreThresholdsAt}
 use Rattle.vmv_need.proofs.gather.all_thresholds.Given as goal
 
 abbrev pub invariant-loop-number : goal.invariant-loop-number

@@ -3,13 +3,11 @@ use Rattle.vmv_report.specs.Rows.{verdict_of}
 use Rattle.vmv_report.proofs.judging.review.Goals as goal
 
 pub returns : goal.returns
-returns c = λ ends are.
-    let told = c.in_ok-rows.ensures ends are in
-    record {
-      conditions = ap Some c.in_ok-conditions.ensures;
-      enough_is = c.in_ok-sufficient.ensures;
-      rows = told.rows;
-      verdict = c.verdict_of.ensures ∙ ap verdict_of c.as_slice.ensures;
-      witnesses = told.witnesses;
-      shown_by = refl;
-    }
+returns c = record {
+  conditions = ap Some c.in_ok-conditions.ensures;
+  enough_is = c.in_ok-sufficient.ensures;
+  rows = c.in_ok-rows.ensures.rows;
+  verdict = c.verdict_of.ensures ∙ ap verdict_of c.as_slice.ensures;
+  witnesses = c.in_ok-rows.ensures.witnesses;
+  shown_by = refl;
+}

@@ -1,0 +1,4 @@
+pub mod Recorded
+pub mod Frozen
+pub mod Telling
+pub mod Showing

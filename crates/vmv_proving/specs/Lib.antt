@@ -1,0 +1,3 @@
+pub mod Exclusions
+pub mod Shown
+pub mod Work

@@ -1,0 +1,10 @@
+use Rattle.std.proofs.Common.{refl}
+use Rattle.vmv_report.specs.Work.{review_of}
+use Rattle.vmv_report.proofs.Listing.{sites_of_one, sites_of_both}
+use Rattle.vmv_report.proofs.proving.with_runs.Goals as goal
+
+pub returns-then-is_empty : goal.returns-then-is_empty
+returns-then-is_empty c = sites_of_one (review_of c.args.judging.now) c.args.entry.0 _ _ _ _ refl c.requires.always c.requires.relative (c.is_empty.ensures.0 c.if-is_empty.true)
+
+pub returns : goal.returns
+returns c = sites_of_both (review_of c.args.judging.now) c.args.entry.0 _ _ _ _ refl c.requires.always c.requires.relative c.in_ok-found.ensures

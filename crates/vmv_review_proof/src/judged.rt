@@ -1,0 +1,42 @@
+ghost use Rattle.std.specs.Prelude.{IfOk};
+ghost use Rattle.vmv_report.specs.Reports.{IsReport};
+ghost use Rattle.vmv_review_proof.specs.Proofs.{HasConditions, IsProofOf};
+
+use crate::making::proof_by;
+use std::alloc::{AllocError, Global};
+use vmv_demands::ends;
+use vmv_need::Needed;
+use vmv_proof::Proof;
+use vmv_report::{Baseline, Report, judge_by};
+use vmv_snapshot::Snapshot;
+
+/// A report and the proof of its review.
+#[derive(Drop)]
+pub struct Judged {
+    /// What the review tells.
+    pub report: Report,
+    /// What shows it.
+    pub proof: Proof,
+}
+
+/// What a review tells of a revision, with its proof: each table is made once. The base isn't vacuous. It fails for want of
+/// memory alone.
+pub fn judge_with_proof(
+    alloc: Global,
+    baseline: &Baseline,
+    revision: &Snapshot,
+) -> Result<Judged, AllocError>
+    requires { HasConditions baseline.now.needed }
+    ensures report { IfOk result (λ judged. IsReport baseline.now.base revision.now judged.report) }
+    ensures proof { IfOk result (λ judged. IsProofOf baseline.now.base revision.now judged.proof) }
+{
+    match baseline.needed() {
+        Needed::Conditions { assumption, cuts } => {
+            let ends = ends(alloc, baseline.base())?;
+            let proof = proof_by(alloc, baseline, assumption, cuts, revision, &ends)?;
+            let report = judge_by(alloc, baseline, revision, &ends, proof.shown.as_slice())?;
+            Ok(Judged { report, proof })
+        }
+        Needed::Vacuous { .. } => unreachable!(),
+    }
+}
