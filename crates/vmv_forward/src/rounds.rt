@@ -14,7 +14,7 @@ use crate::instance::Instance;
 use std::sync::ledger::Ledger;
 use vmv_assumption::Assumption;
 use vmv_cond::Cond;
-use vmv_pass::{Passed, Place, Steps, raise};
+use vmv_pass::{Passed, Place, Spare, Steps, raise};
 use vmv_snapshot::{ProcId, Snapshot};
 use vmv_zone::Zone;
 
@@ -62,6 +62,7 @@ fn pass<L: Ledger>(
     instance: &mut Instance,
     input: &Zone,
     steps: &mut Steps<L>,
+    spare: &mut Spare,
 ) -> Passed
     requires proc { instance.old.proc.0 < length (procs_of search.now.snapshot.now) }
     requires scale { AreScale search.now.thresholds.now }
@@ -83,17 +84,19 @@ fn pass<L: Ledger>(
         instance.inputs.as_mut_slice(),
         instance.unproved.as_mut_slice(),
         steps,
+        spare,
     )
 }
 
 /// Passes over an instance from the input that its caller has for it, and gives the range to the caller. Answers whether
-/// something that is stored was raised. The input stands in the spare state meanwhile.
+/// something that is stored was raised. The input is copied out meanwhile.
 fn visit<L: Ledger>(
     search: &Search<'_>,
     instances: &mut [Instance],
     number: usize,
     steps: &mut Steps<L>,
-    spare: &mut Zone,
+    input: &mut Zone,
+    spare: &mut Spare,
 ) -> bool
     requires from { 1 ≤ number }
     requires to { number < length instances.old }
@@ -103,8 +106,8 @@ fn visit<L: Ledger>(
     let instance = &instances[number];
     let caller = instance.caller;
     let place = instance.place;
-    spare.copy_from(instances[caller].input(place));
-    let passed = pass(search, &mut instances[number], spare, steps);
+    input.copy_from(instances[caller].input(place));
+    let passed = pass(search, &mut instances[number], input, steps, spare);
     instances[caller].set_result(place, passed.range);
     passed.raised
 }
@@ -147,13 +150,14 @@ fn mark(instance: &Instance, number: usize, raised: bool, due: &mut [bool])
 }
 
 /// Visits those of the instances that have to be visited, those that are called before their callers. Answers whether
-/// something that is stored was raised. The visits need the spare state.
+/// something that is stored was raised. The visits work in the other states.
 fn round<L: Ledger>(
     search: &Search<'_>,
     instances: &mut [Instance],
     due: &mut [bool],
     steps: &mut Steps<L>,
-    spare: &mut Zone,
+    input: &mut Zone,
+    spare: &mut Spare,
 ) -> bool
     requires kept { AreKept (quest_of search.now) instances.old }
     requires due { AreDue (quest_of search.now) instances.old due.old }
@@ -171,7 +175,7 @@ fn round<L: Ledger>(
     while number > 1 {
         number -= 1;
         if due[number] {
-            let rises = visit(search, instances, number, steps, spare);
+            let rises = visit(search, instances, number, steps, input, spare);
             mark(&instances[number], number, rises, due);
             if rises {
                 raised = true;
@@ -197,9 +201,10 @@ pub(crate) fn settle<L: Ledger>(
     ensures loops { loops_of instances.new ≡ loops_of instances.old }
     ensures cost { steps.new + all_ranks search.now.thresholds.now instances.old ≤ steps.old + all_ranks search.now.thresholds.now instances.new }
 {
-    let mut spare = Zone::bottom(0);
+    let mut input = Zone::bottom(0);
+    let mut spare = Spare::new();
     let mut raised = true;
     while raised {
-        raised = round(search, instances, due, steps, &mut spare);
+        raised = round(search, instances, due, steps, &mut input, &mut spare);
     }
 }

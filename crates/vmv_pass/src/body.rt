@@ -13,11 +13,11 @@ ghost use Rattle.vmv_pass.specs.Upper.{IsProc, AreScale, Fits, AreBelow, IsUnder
 ghost use Rattle.vmv_pass.specs.Moves.{stored_of};
 
 use crate::call::zone_operand;
-use crate::place::{Mark, Passed, Place};
+use crate::place::{Mark, Passed, Place, Spare};
 use crate::steps::Steps;
 use crate::walk::pass_block;
 use std::sync::ledger::Ledger;
-use vmv_step::enter;
+use vmv_step::enter_into;
 use vmv_zone::Zone;
 
 /// One pass over a procedure: walks through it once from entering it with the input, and raises what is stored.
@@ -25,13 +25,15 @@ use vmv_zone::Zone;
 /// `keeps` has the state at each loop of the procedure, in text order. `inputs` has the input of each call of a helper, in
 /// text order, and `unproved` a flag for each site. The state at a loop is raised to the least threshold state above it and
 /// the states that the walk comes to, an input to the norm of the join. The raising of a state at a loop is one step, the
-/// raising of an input none. The thresholds are in order, and have 0 and the bounds that words keep.
+/// raising of an input none. The thresholds are in order, and have 0 and the bounds that words keep. The spare states are
+/// those that the pass works in.
 pub fn raise<L: Ledger>(
     at: &Place<'_>,
     keeps: &mut [Zone],
     inputs: &mut [Zone],
     unproved: &mut [bool],
     steps: &mut Steps<L>,
+    spare: &mut Spare,
 ) -> Passed
     requires proc { at.now.proc.0 < length (procs_of at.now.snapshot.now) }
     requires scale { AreScale at.now.thresholds.now }
@@ -51,7 +53,7 @@ pub fn raise<L: Ledger>(
 {
     let _program = at.snapshot.program();
     let code = at.snapshot.code(at.proc);
-    let mut zone = enter(at.snapshot, at.proc, at.input);
+    enter_into(at.snapshot, at.proc, at.input, &mut spare.walked);
     let mut mark = Mark {
         keep: 0,
         call: 0,
@@ -65,10 +67,11 @@ pub fn raise<L: Ledger>(
         unproved,
         &mut mark,
         steps,
-        &mut zone,
+        &mut spare.passed,
+        &mut spare.walked,
     );
     Passed {
-        range: zone.range_normed(zone_operand(code.result)),
+        range: spare.walked.range_normed(zone_operand(code.result)),
         raised: mark.raised,
     }
 }

@@ -23,8 +23,7 @@ pub(crate) fn zone_operand(operand: CodeOperand) -> ZoneOperand
 }
 
 /// Passes over the call of a helper, which is the `c`-th: raises its input, and goes on with what is stored as its result. The
-/// state of the arguments is the one that this needs.
-#[inline(never)]
+/// arguments stand in the spare state.
 pub(crate) fn pass_call(
     at: &Place<'_>,
     to: Slot,
@@ -32,6 +31,7 @@ pub(crate) fn pass_call(
     c: usize,
     inputs: &mut [Zone],
     raised: &mut bool,
+    passed: &mut Zone,
     zone: &mut Zone,
 )
     requires normal { IsNormal zone.old }
@@ -50,9 +50,8 @@ pub(crate) fn pass_call(
     if zone.is_bottom() {
         return;
     }
-    let mut passed = *zone;
-    pass_into(args, zone, &mut passed);
-    take_input(c, &passed, inputs, raised);
+    pass_into(args, zone, passed);
+    take_input(c, passed, inputs, raised);
     let cond = at.results[c];
     zone.store(to.0, ZoneValue::Within(cond));
 }

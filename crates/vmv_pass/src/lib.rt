@@ -14,5 +14,5 @@ mod walk;
 
 pub use body::raise;
 pub use laws::{calls_that_are_met_have_rows, ranks_are_few, rows_that_hold_meet_calls};
-pub use place::{Passed, Place};
+pub use place::{Passed, Place, Spare};
 pub use steps::Steps;

@@ -31,3 +31,22 @@ pub(crate) struct Mark {
     pub(crate) call: usize,
     pub(crate) raised: bool,
 }
+
+/// States to work in. What they are before and behind a pass doesn't matter.
+#[derive(Drop)]
+pub struct Spare {
+    /// The state that a walk carries.
+    pub(crate) walked: Zone,
+    /// The state of the arguments of a call.
+    pub(crate) passed: Zone,
+}
+
+impl Spare {
+    /// Two states for passes to work in, which may be used again and again.
+    pub fn new() -> Spare {
+        Spare {
+            walked: Zone::bottom(0),
+            passed: Zone::bottom(0),
+        }
+    }
+}

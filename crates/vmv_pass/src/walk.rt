@@ -47,6 +47,7 @@ fn pass_stmt<L: Ledger>(
     unproved: &mut [bool],
     mark: &mut Mark,
     steps: &mut Steps<L>,
+    passed: &mut Zone,
     zone: &mut Zone,
 )
     requires normal { IsNormal zone.old }
@@ -71,7 +72,16 @@ fn pass_stmt<L: Ledger>(
         CodeStmt::Help { to, args, .. } => {
             let c = mark.call;
             mark.call += 1;
-            pass_call(at, *to, args.as_slice(), c, inputs, &mut mark.raised, zone)
+            pass_call(
+                at,
+                *to,
+                args.as_slice(),
+                c,
+                inputs,
+                &mut mark.raised,
+                passed,
+                zone,
+            )
         }
         CodeStmt::If {
             test,
@@ -87,10 +97,13 @@ fn pass_stmt<L: Ledger>(
             unproved,
             mark,
             steps,
+            passed,
             zone,
         ),
         CodeStmt::Repeat(repeat) => {
-            pass_repeat(at, repeat, keeps, inputs, unproved, mark, steps, zone)
+            pass_repeat(
+                at, repeat, keeps, inputs, unproved, mark, steps, passed, zone,
+            )
         }
     }
 }
@@ -108,6 +121,7 @@ fn pass_if<L: Ledger>(
     unproved: &mut [bool],
     mark: &mut Mark,
     steps: &mut Steps<L>,
+    passed: &mut Zone,
     zone: &mut Zone,
 )
     requires normal { IsNormal zone.old }
@@ -129,8 +143,12 @@ fn pass_if<L: Ledger>(
 {
     let mut other = *zone;
     branch_in_place(test, zone, &mut other);
-    pass_block(at, first, keeps, inputs, unproved, mark, steps, zone);
-    pass_block(at, second, keeps, inputs, unproved, mark, steps, &mut other);
+    pass_block(
+        at, first, keeps, inputs, unproved, mark, steps, passed, zone,
+    );
+    pass_block(
+        at, second, keeps, inputs, unproved, mark, steps, passed, &mut other,
+    );
     zone.join_with(&other);
 }
 
@@ -144,6 +162,7 @@ fn pass_repeat<L: Ledger>(
     unproved: &mut [bool],
     mark: &mut Mark,
     steps: &mut Steps<L>,
+    passed: &mut Zone,
     zone: &mut Zone,
 )
     requires normal { IsNormal zone.old }
@@ -179,6 +198,7 @@ fn pass_repeat<L: Ledger>(
         unproved,
         mark,
         steps,
+        passed,
         zone,
     );
     again_in_place(repeat, zone);
@@ -198,6 +218,7 @@ pub(crate) fn pass_block<L: Ledger>(
     unproved: &mut [bool],
     mark: &mut Mark,
     steps: &mut Steps<L>,
+    passed: &mut Zone,
     zone: &mut Zone,
 )
     requires normal { IsNormal zone.old }
@@ -218,6 +239,6 @@ pub(crate) fn pass_block<L: Ledger>(
     ensures call { mark.new.call ≡ mark.old.call + length (block_callees (block_of block.now)) }
 {
     for stmt in block {
-        pass_stmt(at, stmt, keeps, inputs, unproved, mark, steps, zone);
+        pass_stmt(at, stmt, keeps, inputs, unproved, mark, steps, passed, zone);
     }
 }

@@ -21,9 +21,22 @@ pub fn enter(snapshot: &Snapshot, proc: ProcId, input: &Zone) -> Zone
     requires input { (item : tree.Item) → slice_get (procs_of snapshot.now) proc.0 ≡ Some item → vars_of input.now ≡ length (params_of item) }
     ensures { (item : tree.Item) (code : Code) → slice_get (procs_of snapshot.now) proc.0 ≡ Some item → slice_get snapshot.now.codes proc.0 ≡ Some code → IsEntered input.now (length (params_of item)) (declared_count item) code.vars result }
 {
+    let mut zone = Zone::bottom(0);
+    enter_into(snapshot, proc, input, &mut zone);
+    zone
+}
+
+/// Makes the other state the one in which a procedure starts.
+///
+/// The procedure is one of the snapshot's, and the input is over its parameters. The input needn't be normal.
+pub fn enter_into(snapshot: &Snapshot, proc: ProcId, input: &Zone, into: &mut Zone)
+    requires proc { proc.0 < length (procs_of snapshot.now) }
+    requires input { (item : tree.Item) → slice_get (procs_of snapshot.now) proc.0 ≡ Some item → vars_of input.now ≡ length (params_of item) }
+    ensures { (item : tree.Item) (code : Code) → slice_get (procs_of snapshot.now) proc.0 ≡ Some item → slice_get snapshot.now.codes proc.0 ≡ Some code → IsEntered input.now (length (params_of item)) (declared_count item) code.vars into.new }
+{
     let code = snapshot.code(proc);
     let declared = declared_of(snapshot.program().items.as_slice(), proc);
-    entered(input, declared as u8, code.vars)
+    start(input, declared as u8, code.vars, into);
 }
 
 /// How many names the procedure of this number declares; 0 where there is none.
@@ -53,21 +66,20 @@ fn declared_in(item: &Item) -> Option<usize>
     }
 }
 
-/// The state in which a procedure with so many declared names and variables starts.
-fn entered(input: &Zone, declared: u8, count: u8) -> Zone
+/// Makes the other state the one in which a procedure with so many declared names and variables starts.
+fn start(input: &Zone, declared: u8, count: u8, into: &mut Zone)
     requires few { count ≤ 16 }
     requires room { vars_of input.now + declared ≤ count }
-    ensures { IsEntered input.now (vars_of input.now) declared count result }
+    ensures { IsEntered input.now (vars_of input.now) declared count into.new }
 {
     if input.is_bottom() {
-        return Zone::bottom(count);
+        into.empty(count);
+        return;
     }
-    let top = Zone::top(count);
-    let mut zone = top;
-    set_bounds(&mut zone, input, declared, &top);
-    set_marks(&mut zone, input);
-    zone.normalize();
-    zone
+    into.fill(count);
+    set_bounds(into, input, declared);
+    set_marks(into, input);
+    into.normalize();
 }
 
 /// Whether the thing is the variable of a declared name: one of those that stand behind so many parameters.
@@ -78,12 +90,13 @@ fn is_declared(params: u8, declared: u8, i: u8) -> bool
     params < i && i <= params + declared
 }
 
-/// The bound on `i - j` in the state in which a procedure starts.
-fn bound_between(input: &Zone, declared: u8, top: &Zone, i: u8, j: u8) -> i128
+/// The bound on `i - j` in the state in which a procedure starts, where the state has top's bounds on `i` against `j` and
+/// on.
+fn bound_between(input: &Zone, declared: u8, zone: &Zone, i: u8, j: u8) -> i128
     requires few { vars_of input.now + declared ≤ 16 }
-    requires top { IsTop top.now }
-    requires i { i ≤ vars_of top.now }
-    requires j { j ≤ vars_of top.now }
+    requires i { i ≤ vars_of zone.now }
+    requires j { j ≤ vars_of zone.now }
+    requires top { (q : ℕ) → j ≤ q → q ≤ vars_of zone.now → bound_of zone.now i q ≡ top_bound i q }
     ensures value { result ≡ entered_bound input.now (vars_of input.now) declared i j }
     ensures low { negsuc (2 ^ 64 - 1) ≤ℤ result }
     ensures high { result ≤ℤ top_bound i j }
@@ -94,42 +107,40 @@ fn bound_between(input: &Zone, declared: u8, top: &Zone, i: u8, j: u8) -> i128
     }
     let above = is_declared(params, declared, i) && j == 0;
     let below = i == 0 && is_declared(params, declared, j);
-    if above || below { 0 } else { top.bound(i, j) }
+    if above || below { 0 } else { zone.bound(i, j) }
 }
 
-/// Sets the bounds on `i` to those with which a procedure starts.
-fn set_row(zone: &mut Zone, input: &Zone, declared: u8, top: &Zone, i: u8)
+/// Sets the bounds on `i`, which are top's, to those with which a procedure starts.
+fn set_row(zone: &mut Zone, input: &Zone, declared: u8, i: u8)
     requires few { vars_of input.now + declared ≤ 16 }
-    requires top { IsTop top.now }
-    requires count { vars_of top.now ≤ 16 }
-    requires same { vars_of zone.old ≡ vars_of top.now }
+    requires count { vars_of zone.old ≤ 16 }
     requires not_bottom { NotBottom zone.old }
-    requires i { i ≤ vars_of top.now }
+    requires i { i ≤ vars_of zone.old }
+    requires top { (j : ℕ) → j ≤ vars_of zone.old → bound_of zone.old i j ≡ top_bound i j }
     ensures vars { vars_of zone.new ≡ vars_of zone.old }
     ensures not_bottom { NotBottom zone.new }
     ensures row { (j : ℕ) → j ≤ vars_of zone.old → bound_of zone.new i j ≡ entered_bound input.now (vars_of input.now) declared i j }
     ensures others { (p q : ℕ) → p ≤ vars_of zone.old → q ≤ vars_of zone.old → p ≢ i → bound_of zone.new p q ≡ bound_of zone.old p q }
     ensures marks { (p : ℕ) → mark_of zone.new p ≡ mark_of zone.old p }
 {
-    for j in 0..top.vars() + 1 {
-        let bound = bound_between(input, declared, top, i, j);
+    for j in 0..zone.vars() + 1 {
+        let bound = bound_between(input, declared, zone, i, j);
         zone.set_bound(i, j, bound);
     }
 }
 
-/// Sets the bounds to those with which a procedure starts.
-fn set_bounds(zone: &mut Zone, input: &Zone, declared: u8, top: &Zone)
+/// Sets the bounds, which are top's, to those with which a procedure starts.
+fn set_bounds(zone: &mut Zone, input: &Zone, declared: u8)
     requires few { vars_of input.now + declared ≤ 16 }
-    requires top { IsTop top.now }
-    requires count { vars_of top.now ≤ 16 }
-    requires same { zone.old ≡ top.now }
-    ensures vars { vars_of zone.new ≡ vars_of top.now }
+    requires top { IsTop zone.old }
+    requires count { vars_of zone.old ≤ 16 }
+    ensures vars { vars_of zone.new ≡ vars_of zone.old }
     ensures not_bottom { NotBottom zone.new }
-    ensures bounds { (p q : ℕ) → p ≤ vars_of top.now → q ≤ vars_of top.now → bound_of zone.new p q ≡ entered_bound input.now (vars_of input.now) declared p q }
+    ensures bounds { (p q : ℕ) → p ≤ vars_of zone.old → q ≤ vars_of zone.old → bound_of zone.new p q ≡ entered_bound input.now (vars_of input.now) declared p q }
     ensures marks { (p : ℕ) → mark_of zone.new p ≡ false }
 {
-    for i in 0..top.vars() + 1 {
-        set_row(zone, input, declared, top, i);
+    for i in 0..zone.vars() + 1 {
+        set_row(zone, input, declared, i);
     }
 }
 

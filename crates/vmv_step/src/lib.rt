@@ -10,7 +10,7 @@ mod simple;
 mod stepped;
 mod zones;
 
-pub use entry::enter;
+pub use entry::{enter, enter_into};
 pub use laws::{
     again_is_monotone, again_keeps_points, branch_is_monotone, branch_keeps_points,
     branches_are_normal, enter_is_monotone, enter_keeps_points, entered_states_are_normal,

@@ -29,7 +29,7 @@ min_is a b = grind (arith, ints)
 
 -- of two steps, each the bound or over the lowered one, none is shorter than the bound on both ends and the path over
 -- the lowered one
-steps_through : (pq pr rq pi jq jr ri ji b : ℤ) → pos 0 ≤ℤ (b +ℤ ji) → pq ≤ℤ (pr +ℤ rq) → pi ≤ℤ (pr +ℤ ri) → jq ≤ℤ (jr +ℤ rq) → ji ≤ℤ (jr +ℤ ri) →
+pub steps_through : (pq pr rq pi jq jr ri ji b : ℤ) → pos 0 ≤ℤ (b +ℤ ji) → pq ≤ℤ (pr +ℤ rq) → pi ≤ℤ (pr +ℤ ri) → jq ≤ℤ (jr +ℤ rq) → ji ≤ℤ (jr +ℤ ri) →
     int_min pq ((pi +ℤ b) +ℤ jq) ≤ℤ (int_min pr ((pi +ℤ b) +ℤ jr) +ℤ int_min rq ((ri +ℤ b) +ℤ jq))
 steps_through pq pr rq pi jq jr ri ji b cycle one two three four =
     let l = min_left pq ((pi +ℤ b) +ℤ jq) in

@@ -18,21 +18,13 @@ use Rattle.vmv_zone.specs.Step.{IsAmong, Computed, Given, Drops, IsAssigned, IsO
 use Rattle.vmv_zone.proofs.Closing.{by_last, extended_from, extended_to, extended_old, extended_closed}
 use Rattle.vmv_zone.proofs.Confining.{true_along, confines_as}
 use Rattle.vmv_zone.proofs.Operands.{thing_inside}
-use Rattle.vmv_zone.proofs.Words.{bottom_bound, operand_more}
+use Rattle.vmv_zone.proofs.Words.{operand_more}
 use Rattle.vmv_zone.proofs.Values.{assigned_of}
 
 pub unmarked_same : (a b : Bool) → ¬ IsTrue a → ¬ IsTrue b → a ≡ b
 unmarked_same true b h k = absurd (h (search rules))
 unmarked_same false true h k = absurd (k (search rules))
 unmarked_same false false h k = refl
-
-pub extends_bottom : (old new : Zone) → new.vars ≡ old.vars + 1 → IsTrue old.bottom → IsTrue new.bottom → Extends old new
-extends_bottom old new vars none none' = record {
-  vars = vars;
-  bounds = λ i j hi hj. bottom_bound new i j none' ∙ sym (bottom_bound old i j none);
-  marks = λ i hi. unmarked_same (mark_of new i) (mark_of old i) ((new.emptied none').unmarked i) ((old.emptied none).unmarked i);
-  normal = λ h up. absurd (search rules);
-}
 
 extended_normal : (old new : Zone) → new.vars ≡ old.vars + 1 → new.marks ≡ old.marks → IsTableBy (λ i j b. b ≡ extended_bound old.bounds (old.vars + 1) i j) (old.vars + 1) new.bounds →
     HasNormalBounds old → HasNormalBounds new

@@ -1,66 +1,69 @@
 -- A table of bounds, filled place by place.
-use Rattle.std.proofs.Common.{◌≡◌, ◌≢◌, ⊎_elim, ℕ, ◌+◌, ◌*◌, ◌/◌, ◌%◌, ◌<◌, ◌≤◌, ℤ, pos, List, get_or, set, length, length-set, replicate, arith, refl, ◌∙◌, get_or-set_same, get_or-set_other}
-use Rattle.std.proofs.lemmas.List.{length-replicate}
+use Rattle.std.proofs.Common.{◌≡◌, ◌≢◌, ◌⊎◌, ⊎_elim, inl, inr, ℕ, ◌+◌, ◌*◌, ◌/◌, ◌%◌, ◌<◌, ◌≤◌, ℤ, pos, List, get_or, set, length, length-set, arith, refl, ◌∙◌, get_or-set_same, get_or-set_other}
 use Rattle.std.proofs.lemmas.Bool.{cases_eq, cases_lt}
 use Rattle.std.proofs.lemmas.Int.{ints}
-use Rattle.vmv_zone.specs.Bounds.{IsInReach, AreInReach, AreZeroOutside, bound_at, inner_bound, IsTable, top_bound, dropped_bound, freed_bound, moved, IsTableBy}
+use Rattle.vmv_zone.specs.Bounds.{IsInReach, AreInReach, AreZeroOutside, bound_at, top_bound, dropped_bound, freed_bound, moved, IsTableBy}
+use Rattle.vmv_zone.specs.Lines.{RowFilled}
 use Rattle.vmv_zone.proofs.Places.{reach_set}
-use Rattle.vmv_zone.proofs.Zeros.{zeros_reach, get_or-zeros}
 
-inner_is : (vars j : ℕ) (b : ℤ) → j ≤ vars → inner_bound vars j b ≡ b
-inner_is vars j b h = grind arith
+pub row_begun : (Is : ℕ → ℤ → Type 0) (bs : List ℤ) (i : ℕ) → length bs ≡ 324 → AreInReach bs → RowFilled Is bs bs i 0
+row_begun Is bs i full reach = record { full = full; reach = reach; row = λ j h. absurd (omega arith); rest = λ p j hj h. refl }
 
-outer_is : (vars j : ℕ) (b : ℤ) → vars < j → inner_bound vars j b ≡ pos 0
-outer_is vars j b h = grind arith
-
-pub inner_reach : (vars j : ℕ) (b : ℤ) → IsInReach b → IsInReach (inner_bound vars j b)
-inner_reach vars j b reach =
-    ⊎_elim
-    (λ (past : vars < j). rw (outer_is vars j b past) (record { low = omega (arith, ints); high = omega (arith, ints) }))
-    (λ (within : j ≤ vars). rw (inner_is vars j b within) reach)
-    (cases_lt vars j)
-
--- the places below this one are filled by f, and the others are 0
-pub record Tabulated (f : ℕ → ℕ → ℤ) (vars : ℕ) (bs : List ℤ) (place : ℕ) : Type 0 where
-  pub full : length bs ≡ 324
-  pub reach : AreInReach bs
-  pub filled : (i j : ℕ) → j < 18 → 18 * i + j < place → bound_at bs i j ≡ inner_bound vars j (f i j)
-  pub rest : (k : ℕ) → place ≤ k → get_or bs k (pos 0) ≡ pos 0
-
-pub tabulated_none : (f : ℕ → ℕ → ℤ) (vars : ℕ) → Tabulated f vars (replicate 324 (pos 0)) 0
-tabulated_none f vars = record { full = length-replicate 324 (pos 0); reach = zeros_reach 324; filled = λ i j hj h. absurd (omega arith); rest = λ k h. get_or-zeros 324 k }
-
-pub tabulated_more : (f : ℕ → ℕ → ℤ) (vars : ℕ) (bs : List ℤ) (place : ℕ) (b : ℤ) → ((i j : ℕ) → IsInReach (f i j)) → place < 324 → Tabulated f vars bs place →
-    b ≡ inner_bound vars (place % 18) (f (place / 18) (place % 18)) → Tabulated f vars (set bs place b) (place + 1)
-tabulated_more f vars bs place b all inside table is =
-    let here : IsInReach b = rw is (inner_reach vars (place % 18) (f (place / 18) (place % 18)) (all (place / 18) (place % 18))) in
-    let within : place < length bs = omega (arith, table.full) in
+pub row_filled : (Is : ℕ → ℤ → Type 0) (old new : List ℤ) (i k : ℕ) (b : ℤ) → i ≤ 17 → k ≤ 17 → RowFilled Is old new i k → Is k b → IsInReach b → RowFilled Is old (set new (18 * i + k) b) i (k + 1)
+row_filled Is old new i k b hi hk row is here =
+    let inside : 18 * i + k < length new = omega (arith, row.full) in
     record {
-      full = length-set bs place b ∙ table.full;
-      reach = reach_set bs place b within table.reach here;
-      filled = λ i j hj h. ⊎_elim
-          (λ (same : 18 * i + j ≡ place).
-          let row : place / 18 ≡ i = omega arith in
-          let column : place % 18 ≡ j = omega arith in
-          let is' : b ≡ inner_bound vars j (f i j) = rw (row, column) at is in
-          rw (same, get_or-set_same) is')
-          (λ (other : 18 * i + j ≢ place). rw get_or-set_other (table.filled i j hj (omega arith)))
-          (cases_eq (18 * i + j) place);
-      rest = λ k h. let ne : k ≢ place = omega arith in rw get_or-set_other (table.rest k (omega arith));
+      full = length-set new (18 * i + k) b ∙ row.full;
+      reach = reach_set new (18 * i + k) b inside row.reach here;
+      row = λ j h. ⊎_elim
+          (λ (same : j ≡ k). rw (same, get_or-set_same) is)
+          (λ (other : j ≢ k). let ne : 18 * i + j ≢ 18 * i + k = omega arith in rw get_or-set_other (row.row j (omega arith)))
+          (cases_eq j k);
+      rest = λ p j hj h.
+          let ne : 18 * p + j ≢ 18 * i + k = λ same. ⊎_elim (λ (off : p ≢ i). omega arith) (λ (past : k + 1 ≤ j). omega arith) h in
+          let was : p ≢ i ⊎ k ≤ j = ⊎_elim (λ (off : p ≢ i). inl off) (λ (past : k + 1 ≤ j). inr (omega arith)) h in
+          rw get_or-set_other (row.rest p j hj was);
     }
 
-pub tabulated_done : (f : ℕ → ℕ → ℤ) (vars : ℕ) (bs : List ℤ) (place : ℕ) → vars ≤ 17 → place ≡ 18 * (vars + 1) → Tabulated f vars bs place → IsTable f vars bs
-tabulated_done f vars bs place few all table = record {
+-- the bounds on the things before i have the property of their place, and the others are 0
+pub record FilledBy (Is : ℕ → ℕ → ℤ → Type 0) (vars : ℕ) (bs : List ℤ) (i : ℕ) : Type 0 where
+  pub full : length bs ≡ 324
+  pub reach : AreInReach bs
+  pub filled : (p j : ℕ) → p < i → j ≤ vars → Is p j (bound_at bs p j)
+  pub rest : (p j : ℕ) → j < 18 → (i ≤ p ⊎ vars < j) → bound_at bs p j ≡ pos 0
+
+-- none is filled yet where all bounds are 0
+pub filled_zeros : (Is : ℕ → ℕ → ℤ → Type 0) (vars : ℕ) (bs : List ℤ) → length bs ≡ 324 → ((k : ℕ) → get_or bs k (pos 0) ≡ pos 0) → FilledBy Is vars bs 0
+filled_zeros Is vars bs full zeros = record {
+  full = full;
+  reach = λ k. rw (zeros k) (record { low = omega (arith, ints); high = omega (arith, ints) });
+  filled = λ p j h hj. absurd (omega arith);
+  rest = λ p j hj h. zeros (18 * p + j);
+}
+
+pub filled_more : (Is : ℕ → ℕ → ℤ → Type 0) (vars : ℕ) (old new : List ℤ) (i k : ℕ) → vars ≤ 17 → k ≡ vars + 1 → FilledBy Is vars old i → RowFilled (Is i) old new i k → FilledBy Is vars new (i + 1)
+filled_more Is vars old new i k few all table row = record {
+  full = row.full;
+  reach = row.reach;
+  filled = λ p j h hj. ⊎_elim
+      (λ (same : p ≡ i). let is = row.row j (omega arith) in rw same is)
+      (λ (other : p ≢ i).
+      let kept = row.rest p j (omega arith) (inl other) in
+      let was : Is p j (bound_at old p j) = table.filled p j (omega arith) hj in
+      rw kept was)
+      (cases_eq p i);
+  rest = λ p j hj h. ⊎_elim
+      (λ (after : i + 1 ≤ p). let ne : p ≢ i = omega arith in row.rest p j hj (inl ne) ∙ table.rest p j hj (inl (omega arith)))
+      (λ (past : vars < j). row.rest p j hj (inr (omega arith)) ∙ table.rest p j hj (inr past))
+      h;
+}
+
+pub filled_done : (Is : ℕ → ℕ → ℤ → Type 0) (vars : ℕ) (bs : List ℤ) (i : ℕ) → i ≡ vars + 1 → FilledBy Is vars bs i → IsTableBy Is vars bs
+filled_done Is vars bs i all table = record {
   full = table.full;
   reach = table.reach;
-  at = λ i j hi hj. table.filled i j (omega arith) (omega arith) ∙ inner_is vars j (f i j) hj;
-  outside = λ i j hi hj out. ⊎_elim
-      (λ (past : vars < i). table.rest (18 * i + j) (omega arith))
-      (λ (past : vars < j). ⊎_elim
-      (λ (within : 18 * i + j < place). table.filled i j hj within ∙ outer_is vars j (f i j) past)
-      (λ (after : place ≤ 18 * i + j). table.rest (18 * i + j) after)
-      (cases_lt (18 * i + j) place))
-      out;
+  at = λ p j hp hj. table.filled p j (omega arith) hj;
+  outside = λ p j hp hj out. ⊎_elim (λ (past : vars < p). table.rest p j hj (inl (omega arith))) (λ (past : vars < j). table.rest p j hj (inr past)) out;
 }
 
 pub top_in_reach : (i j : ℕ) → IsInReach (top_bound i j)
@@ -74,57 +77,6 @@ freed_in_reach bs x reach i j =
     let top = top_in_reach i j in
     let same = reach (18 * i + j) in
     record { low = grind (arith, ints); high = grind (arith, ints) }
-
--- the bounds at the places below this one have the property of their place, and the others are 0
-pub record FilledBy (Is : ℕ → ℕ → ℤ → Type 0) (vars : ℕ) (bs : List ℤ) (place : ℕ) : Type 0 where
-  pub full : length bs ≡ 324
-  pub reach : AreInReach bs
-  pub filled : (i j : ℕ) → j ≤ vars → 18 * i + j < place → Is i j (bound_at bs i j)
-  pub blank : (i j : ℕ) → j < 18 → vars < j → 18 * i + j < place → bound_at bs i j ≡ pos 0
-  pub rest : (k : ℕ) → place ≤ k → get_or bs k (pos 0) ≡ pos 0
-
-pub filled_none : (Is : ℕ → ℕ → ℤ → Type 0) (vars : ℕ) → FilledBy Is vars (replicate 324 (pos 0)) 0
-filled_none Is vars = record { full = length-replicate 324 (pos 0); reach = zeros_reach 324; filled = λ i j hj h. absurd (omega arith); blank = λ i j hj out h. absurd (omega arith); rest = λ k h. get_or-zeros 324 k }
-
-pub filled_more : (Is : ℕ → ℕ → ℤ → Type 0) (vars : ℕ) (bs : List ℤ) (place : ℕ) (b : ℤ) → vars ≤ 17 → place < 324 → FilledBy Is vars bs place →
-    (place % 18 ≤ vars → Is (place / 18) (place % 18) b) → (vars < place % 18 → b ≡ pos 0) → IsInReach b → FilledBy Is vars (set bs place b) (place + 1)
-filled_more Is vars bs place b few inside table is none here =
-    let within : place < length bs = omega (arith, table.full) in
-    record {
-      full = length-set bs place b ∙ table.full;
-      reach = reach_set bs place b within table.reach here;
-      filled = λ i j hj h. ⊎_elim
-          (λ (same : 18 * i + j ≡ place).
-          let row : place / 18 ≡ i = omega arith in
-          let column : place % 18 ≡ j = omega arith in
-          let is' : Is i j b = rw (row, column) at is (omega arith) in
-          rw (same, get_or-set_same) is')
-          (λ (other : 18 * i + j ≢ place). rw get_or-set_other (table.filled i j hj (omega arith)))
-          (cases_eq (18 * i + j) place);
-      blank = λ i j hj out h. ⊎_elim
-          (λ (same : 18 * i + j ≡ place). rw (same, get_or-set_same) (none (omega arith)))
-          (λ (other : 18 * i + j ≢ place). rw get_or-set_other (table.blank i j hj out (omega arith)))
-          (cases_eq (18 * i + j) place);
-      rest = λ k h. let ne : k ≢ place = omega arith in rw get_or-set_other (table.rest k (omega arith));
-    }
-
-pub filled_done : (Is : ℕ → ℕ → ℤ → Type 0) (vars : ℕ) (bs : List ℤ) (place : ℕ) → vars ≤ 17 → place ≡ 18 * (vars + 1) → FilledBy Is vars bs place → IsTableBy Is vars bs
-filled_done Is vars bs place few all table = record {
-  full = table.full;
-  reach = table.reach;
-  at = λ i j hi hj. table.filled i j hj (omega arith);
-  outside = λ i j hi hj out. ⊎_elim
-      (λ (past : vars < i). table.rest (18 * i + j) (omega arith))
-      (λ (past : vars < j). ⊎_elim
-      (λ (within : 18 * i + j < place). table.blank i j hj past within)
-      (λ (after : place ≤ 18 * i + j). table.rest (18 * i + j) after)
-      (cases_lt (18 * i + j) place))
-      out;
-}
-
--- no place is filled yet where all bounds are 0
-pub filled_zeros : (Is : ℕ → ℕ → ℤ → Type 0) (vars : ℕ) (bs : List ℤ) → length bs ≡ 324 → ((k : ℕ) → get_or bs k (pos 0) ≡ pos 0) → FilledBy Is vars bs 0
-filled_zeros Is vars bs full zeros = record { full = full; reach = λ k. rw (zeros k) (record { low = omega (arith, ints); high = omega (arith, ints) }); filled = λ i j hj h. absurd (omega arith); blank = λ i j hj out h. absurd (omega arith); rest = λ k h. zeros k }
 
 -- the bounds at the places below this one have the property of their place and of what was there, and the others are as they were
 pub record RefilledBy (Is : ℤ → ℤ → Type 0) (vars : ℕ) (old new : List ℤ) (place : ℕ) : Type 0 where

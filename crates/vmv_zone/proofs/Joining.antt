@@ -1,11 +1,11 @@
 -- The join of two states, by its bounds and marks.
-use Rattle.std.proofs.Common.{◌∙◌, ◌≡◌, ◌≢◌, ◌⊎◌, ◌↔◌, ℕ, ◌+◌, ◌*◌, ◌<◌, ◌≤◌, ℤ, pos, ◌+ℤ◌, ◌≤ℤ◌, ◌<ℤ◌, List, get_or, IsTrue, IsFalse, arith, rules, refl, sym, subst, ⊎_elim, inl, inr}
+use Rattle.std.proofs.Common.{◌∙◌, ◌≡◌, ◌≢◌, ◌⊎◌, ◌↔◌, ℕ, ◌+◌, ◌*◌, ◌<◌, ◌≤◌, ℤ, pos, ◌<ℤ◌, List, get_or, IsTrue, IsFalse, arith, rules, refl, sym, ⊎_elim, inl, inr}
 use Rattle.std.specs.Int.{int_max}
 use Rattle.std.proofs.lemmas.Int.{ints, clamps}
 use Rattle.std.proofs.lemmas.Bool.{cases_lt}
 use Rattle.vmv_zone.specs.declared.zone.Zone.{Zone}
-use Rattle.vmv_zone.specs.Bounds.{bound_at, IsInReach, AreInReach, AreUnderTop, AreZeroOutside, IsMarkedIn, ExcludesZero, top_bound}
-use Rattle.vmv_zone.specs.Zone.{IsBelow, IsJoin, IsNormal, HasNormalBounds}
+use Rattle.vmv_zone.specs.Bounds.{bound_at, AreInReach, AreUnderTop, AreZeroOutside, IsMarkedIn}
+use Rattle.vmv_zone.specs.Zone.{IsJoin, HasNormalBounds}
 
 max_is : (a b : ℤ) → (int_max a b ≡ a) ⊎ (int_max a b ≡ b)
 max_is a b = grind (arith, ints)

@@ -10,6 +10,7 @@ pub mod Normed
 pub mod Joining
 pub mod Rows
 pub mod Closing
+pub mod Shortest
 pub mod Confining
 pub mod Operands
 pub mod Guards

@@ -18,17 +18,16 @@ pub row_none : (old : List ℤ) (j p : ℕ) (through : ℤ) → length old ≡ 3
 row_none old j p through full reach = record { full = full; reach = reach; done = λ k h. absurd (omega arith); rest = λ r k hk h. refl }
 
 pub row_more : (old new : List ℤ) (vars j p : ℕ) (through : ℤ) (q : ℕ) (b : ℤ) → vars ≤ 17 → p ≤ vars → q ≤ vars → AreInReach old →
-    negsuc (2 ^ 64 - 1) ≤ℤ (through +ℤ bound_at old j q) → RowLowered old new j p through q → b ≡ int_min (through +ℤ bound_at new j q) (bound_at new p q) →
+    RowLowered old new j p through q → b ≡ int_min (through +ℤ bound_at new j q) (bound_at new p q) → negsuc (2 ^ 64 - 1) ≤ℤ b →
     RowLowered old (set new (18 * p + q) b) j p through (q + 1)
-row_more old new vars j p through q b few hp hq all room row is =
+row_more old new vars j p through q b few hp hq all row is room =
     let inside : 18 * p + q < length new = omega (arith, row.full) in
     let there = row.rest j q (omega arith) (inr (omega arith)) in
     let here = row.rest p q (omega arith) (inr (omega arith)) in
     let was = all (18 * p + q) in
-    let low = was.low in
     let high = was.high in
     let value : b ≡ int_min (bound_at old p q) (through +ℤ bound_at old j q) = omega (arith, ints, clamps) in
-    let reach : IsInReach b = record { low = omega (arith, ints, clamps); high = omega (arith, ints, clamps) } in
+    let reach : IsInReach b = record { low = room; high = omega (arith, ints, clamps) } in
     record {
       full = length-set new (18 * p + q) b ∙ row.full;
       reach = reach_set new (18 * p + q) b inside row.reach reach;
@@ -90,6 +89,28 @@ rows_more old new new' vars i j b p through few hi hp cycle rows is full reach r
   rest = λ r q hq h. ⊎_elim
       (λ (after : p + 1 ≤ r). let ne : r ≢ p = omega arith in others r q hq (inl ne) ∙ rows.rest r q hq (inl (omega arith)))
       (λ (past : vars < q). others r q hq (inr past) ∙ rows.rest r q hq (inr past))
+      h;
+}
+
+-- where the bound makes no way from p to j shorter, it makes none shorter from there
+pub rows_skip : (old new : List ℤ) (vars i j : ℕ) (b : ℤ) (p : ℕ) (through : ℤ) → vars ≤ 17 → i ≤ vars → j ≤ vars → p ≤ vars → IsClosed (bound_at old) vars →
+    RowsClosed old new vars i j b p → through ≡ bound_at new p i +ℤ b → bound_at new p j ≤ℤ through → RowsClosed old new vars i j b (p + 1)
+rows_skip old new vars i j b p through few hi hj hp closed rows is far = record {
+  full = rows.full;
+  reach = rows.reach;
+  done = λ r q h hq. ⊎_elim
+      (λ (same : r ≡ p).
+      let here = rows.rest p q (omega arith) (inl (omega arith)) in
+      let from = rows.rest p i (omega arith) (inl (omega arith)) in
+      let to = rows.rest p j (omega arith) (inl (omega arith)) in
+      let path = closed.paths p j q hp hj hq in
+      let is' : bound_at new p q ≡ through_bound old i j b p q = omega (arith, ints, clamps) in
+      rw same is')
+      (λ (other : r ≢ p). rows.done r q (omega arith) hq)
+      (cases_eq r p);
+  rest = λ r q hq h. ⊎_elim
+      (λ (after : p + 1 ≤ r). rows.rest r q hq (inl (omega arith)))
+      (λ (past : vars < q). rows.rest r q hq (inr past))
       h;
 }
 

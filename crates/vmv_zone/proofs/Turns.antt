@@ -2,7 +2,7 @@
 use Rattle.std.proofs.Common.{◌≡◌, ℕ, ◌+◌, ◌<◌, ℤ, List, arith, sym, ◌∙◌, subst, below_more}
 use Rattle.std.proofs.lemmas.Int.{ints}
 use Rattle.vmv_zone.specs.declared.paths.Change.{Change}
-use Rattle.vmv_zone.specs.declared.paths.Change.TheVariants.{Same, Lower, Empty}
+use Rattle.vmv_zone.specs.declared.paths.Change.TheVariants.{Same, Lower}
 use Rattle.vmv_zone.specs.Bounds.{weight}
 use Rattle.vmv_zone.specs.Change.{Relaxes}
 
@@ -41,10 +41,3 @@ turned_lower P a b a' {Keep = Keep} {vars = vars} {old = old} {mid = mid} {new =
       relaxes = relaxes_lower a Keep vars old mid new before.relaxes (rw is at next);
       paths = λ e. absurd (let f : Lower ≡ Same = e in cc);
     })
-
--- what keeps more bounds keeps fewer
-pub relaxes_fewer : (Keep Fewer : (ℕ → ℕ → ℤ) → Type 0) (a : Change) {vars : ℕ} {old new : List ℤ} →
-    ((n : ℕ → ℕ → ℤ) → Fewer n → Keep n) → Relaxes a Keep vars old new → Relaxes a Fewer vars old new
-relaxes_fewer Keep Fewer Same sub r = record { reach = r.reach; lower = r.lower; falls = r.falls; changes = r.changes; below = λ n f. r.below n (sub n f); outside = r.outside }
-relaxes_fewer Keep Fewer Lower sub r = record { reach = r.reach; lower = r.lower; falls = r.falls; changes = r.changes; below = λ n f. r.below n (sub n f); outside = r.outside }
-relaxes_fewer Keep Fewer Empty sub r = record { reach = r.reach; lower = r.lower; falls = r.falls; changes = λ n f. r.changes n (sub n f); below = λ n f. r.below n (sub n f); outside = r.outside }

@@ -1,14 +1,13 @@
 -- What a step did to the bounds.
 use Rattle.std.specs.Prelude.{◌≡◌, ℕ, ◌<◌, ◌≤◌, ℤ, pos, ◌≤ℤ◌, List, get_or}
 use Rattle.vmv_zone.specs.declared.paths.Change.{Change}
-use Rattle.vmv_zone.specs.declared.paths.Change.TheVariants.{Same, Lower, Empty}
+use Rattle.vmv_zone.specs.declared.paths.Change.TheVariants.{Same, Lower}
 use Rattle.vmv_zone.specs.Bounds.{weight, Below, AreInReach, SameOutside}
 
 -- Keep says which bounds are not to be lost
 abbrev pub Changes : Change → ((ℕ → ℕ → ℤ) → Type 0) → ℕ → List ℤ → List ℤ → Type 0
 Changes Same Keep vars old new = new ≡ old
 Changes Lower Keep vars old new = weight new < weight old
-Changes Empty Keep vars old new = (n : ℕ → ℕ → ℤ) → Keep n → ¬ Below n vars old
 
 -- a step lowers bounds, and keeps what is below
 pub record Relaxes (change : Change) (Keep : (ℕ → ℕ → ℤ) → Type 0) (vars : ℕ) (old new : List ℤ) : Type 0 where

@@ -23,3 +23,10 @@ pub record RowCopied (old new : List ℤ) (to from k : ℕ) : Type 0 where
   pub reach : AreInReach new
   pub row : (j : ℕ) → j < k → bound_at new to j ≡ bound_at old from j
   pub rest : (i j : ℕ) → j < 18 → (i ≢ to ⊎ k ≤ j) → bound_at new i j ≡ bound_at old i j
+
+-- each of the bounds on i against the things before k has the property of its place, and the others are as they were
+pub record RowFilled (Is : ℕ → ℤ → Type 0) (old new : List ℤ) (i k : ℕ) : Type 0 where
+  pub full : length new ≡ 324
+  pub reach : AreInReach new
+  pub row : (j : ℕ) → j < k → Is j (bound_at new i j)
+  pub rest : (p j : ℕ) → j < 18 → (p ≢ i ⊎ k ≤ j) → bound_at new p j ≡ bound_at old p j

@@ -1,6 +1,7 @@
-ghost use Rattle.std.specs.Prelude.{◌≡◌, ◌≤◌, ◌<◌, ◌↔◌, ℕ, length, pos, get_or, FitsSigned};
+ghost use Rattle.std.specs.Prelude.{◌≡◌, ◌+◌, ◌≤◌, ◌↔◌, ℕ, length, pos, get_or, FitsSigned};
 ghost use Rattle.std.specs.Int.{w64};
-ghost use Rattle.vmv_zone.specs.Bounds.{IsInReach, IsTableBy, inner_bound, IsMarkedIn};
+ghost use Rattle.vmv_zone.specs.Bounds.{IsInReach, AreInReach, IsTableBy, IsMarkedIn};
+ghost use Rattle.vmv_zone.specs.Lines.{RowFilled};
 ghost use Rattle.vmv_zone.specs.Zone.{vars_of, NotBottom, IsNormal};
 ghost use Rattle.vmv_zone.specs.Operand.{IsOperand, IsNonzero, dif, shift};
 ghost use Rattle.vmv_zone.specs.Args.{argument_at, AreOperands, IsArgBound, IsArgsOf};
@@ -50,24 +51,36 @@ fn fill_bounds(bounds: &mut [i128; CELLS], before: &Zone, args: &[ZoneOperand])
     requires operands { AreOperands (vars_of before.now) args.now }
     ensures { IsTableBy (λ i j b. IsArgBound before.now args.now i j b) (length args.now) bounds.new }
 {
-    for place in 0..18 * (args.len() + 1) {
-        bounds[place] = arg_bound(before, args, place / 18, place % 18);
+    for i in 0..args.len() + 1 {
+        fill_row(bounds, before, args, i);
     }
 }
 
-/// The bound on the difference of two arguments; 0 where `j` is past the last one.
-fn arg_bound(before: &Zone, args: &[ZoneOperand], i: usize, j: usize) -> i128
+/// Fills in the bounds on the differences of the argument `i` from the others.
+fn fill_row(bounds: &mut [i128; CELLS], before: &Zone, args: &[ZoneOperand], i: usize)
     requires i { i ≤ length args.now }
+    requires few { length args.now ≤ 16 }
+    requires reach { AreInReach bounds.old }
     requires normal { IsNormal before.now }
     requires not_bottom { NotBottom before.now }
     requires operands { AreOperands (vars_of before.now) args.now }
-    ensures inside { j ≤ length args.now → IsArgBound before.now args.now i j result }
-    ensures outside { length args.now < j → result ≡ pos 0 }
+    ensures { RowFilled (λ j b. IsArgBound before.now args.now i j b) bounds.old bounds.new i (length args.now + 1) }
+{
+    for j in 0..args.len() + 1 {
+        bounds[18 * i + j] = arg_bound(before, args, i, j);
+    }
+}
+
+/// The bound on the difference of two arguments.
+fn arg_bound(before: &Zone, args: &[ZoneOperand], i: usize, j: usize) -> i128
+    requires i { i ≤ length args.now }
+    requires j { j ≤ length args.now }
+    requires normal { IsNormal before.now }
+    requires not_bottom { NotBottom before.now }
+    requires operands { AreOperands (vars_of before.now) args.now }
+    ensures value { IsArgBound before.now args.now i j result }
     ensures reach { IsInReach result }
 {
-    if j > args.len() {
-        return 0;
-    }
     before.difference_in_reach(argument(args, i), argument(args, j))
 }
 

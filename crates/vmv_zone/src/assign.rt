@@ -24,20 +24,6 @@ impl Zone {
         self
     }
 
-    /// The state after the variable `to` was given the value, where the state before it is normal.
-    pub fn assign_normed(&self, to: u8, value: ZoneValue) -> Zone
-        requires normal { IsNormal self.now }
-        requires few { vars_of self.now ≤ 16 }
-        requires variable { 1 ≤ to }
-        requires to { to ≤ vars_of self.now }
-        requires value { IsOperandOf value (vars_of self.now) }
-        ensures { IsAssigned self.now to value result }
-    {
-        let mut after = *self;
-        after.store(to, value);
-        after
-    }
-
     /// Gives the variable `to` the value, in a normal state.
     pub fn store(&mut self, to: u8, value: ZoneValue)
         requires normal { IsNormal self.old }

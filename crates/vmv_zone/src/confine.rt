@@ -1,5 +1,5 @@
 ghost use Rattle.std.specs.Prelude.{◌≡◌, ◌+◌, ◌-◌, ◌^◌, ◌≤◌, ◌↔◌, ℤ, pos, negsuc, ◌≤ℤ◌, IsTrue};
-ghost use Rattle.vmv_zone.specs.Zone.{vars_of, bound_of, IsMarked};
+ghost use Rattle.vmv_zone.specs.Zone.{vars_of, NotBottom, bound_of};
 ghost use Rattle.vmv_zone.specs.Operand.{dif, IsOperand, IsNonzero, IsSpan};
 ghost use Rattle.vmv_zone.specs.Bounds.{IsWide};
 ghost use Rattle.vmv_zone.specs.Confine.{Confines, HasClosedBounds, Extends};
@@ -32,15 +32,11 @@ impl Zone {
 
     /// Adds one variable, which may be any word.
     pub(crate) fn extend(&mut self)
+        requires not_bottom { NotBottom self.old }
         requires few { vars_of self.old ≤ 16 }
         ensures confines { Confines (vars_of self.old + 1) (λ n. Unit {0}) self.old self.new }
         ensures extends { Extends self.old self.new }
     {
-        if self.bottom {
-            let vars = self.vars + 1;
-            self.empty(vars);
-            return;
-        }
         self.vars += 1;
         extend_bounds(&mut self.bounds, self.vars as usize);
     }

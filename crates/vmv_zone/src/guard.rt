@@ -21,18 +21,6 @@ impl Zone {
         self
     }
 
-    /// The state where the test holds, where the state before it is normal.
-    pub fn guard_normed(&self, test: ZoneTest) -> Zone
-        requires normal { IsNormal self.now }
-        requires left { IsOperand (vars_of self.now) test.left }
-        requires right { IsOperand (vars_of self.now) test.right }
-        ensures { IsGuarded self.now test result }
-    {
-        let mut after = *self;
-        after.hold(test);
-        after
-    }
-
     /// Makes the test hold, in a normal state.
     pub fn hold(&mut self, test: ZoneTest)
         requires normal { IsNormal self.old }

@@ -1,5 +1,6 @@
-ghost use Rattle.std.specs.Prelude.{◌≡◌, ℕ, ◌+◌, ◌*◌, ◌<◌, ◌≤◌, ℤ, pos, ◌≤ℤ◌, ◌<ℤ◌, length, ◌≢◌, IsTrue, IsFalse, List, Bool};
-ghost use Rattle.vmv_zone.specs.Bounds.{Below, AreInReach, HasPath, IsClosed, IsTight, IsMarkedIn, IsOffZero, bound_at};
+ghost use Rattle.std.specs.Prelude.{◌≡◌, ◌⊎◌, ℕ, ◌+◌, ◌*◌, ◌-◌, ◌^◌, ◌<◌, ◌≤◌, ℤ, pos, negsuc, ◌+ℤ◌, ◌≤ℤ◌, ◌<ℤ◌, length, set, ◌≢◌, IsTrue, IsFalse, List, Bool};
+ghost use Rattle.std.specs.Int.{int_min};
+ghost use Rattle.vmv_zone.specs.Bounds.{Below, IsInReach, AreInReach, IsWide, IsClosed, IsTight, IsMarkedIn, IsOffZero, bound_at, through_bound};
 ghost use Rattle.vmv_zone.specs.Change.{Relaxes, Settles};
 
 /// A place for each pair of the 18 things.
@@ -12,86 +13,94 @@ pub(crate) enum Change {
     Same,
     /// Some bound is lower.
     Lower,
-    /// Some path from a thing to itself is below 0, so no point is left.
-    Empty,
 }
 
-/// Lowers the bound on `i - k` to that of the path through `j`.
-pub(crate) fn relax(bounds: &mut [i128; CELLS], vars: usize, i: usize, j: usize, k: usize) -> Change
+/// Lowers the bound on `p - q` to the length of a path. False, and nothing is changed, where the path and the bound on
+/// the way back are together below 0.
+fn shorten(bounds: &mut [i128; CELLS], vars: usize, p: usize, q: usize, path: i128) -> bool
     requires vars { vars ≤ 17 }
-    requires i { i ≤ vars }
-    requires j { j ≤ vars }
-    requires k { k ≤ vars }
+    requires p { p ≤ vars }
+    requires q { q ≤ vars }
     requires reach { AreInReach bounds.old }
-    ensures relaxes { Relaxes result (λ n. IsClosed n vars) vars bounds.old bounds.new }
-    ensures path { result ≡ Change.Same → HasPath bounds.old i j k }
+    requires wide { IsWide path }
+    ensures lowered { IsTrue result → bounds.new ≡ set bounds.old (18 * p + q) (int_min path (bound_at bounds.old p q)) }
+    ensures room { IsTrue result → negsuc (2 ^ 64 - 1) ≤ℤ int_min path (bound_at bounds.old p q) }
+    ensures stays { IsFalse result → bounds.new ≡ bounds.old }
+    ensures cycle { IsFalse result → (path +ℤ bound_at bounds.old q p) <ℤ pos 0 }
 {
-    let through = bounds[18 * i + j] + bounds[18 * j + k];
-    if through >= bounds[18 * i + k] {
-        return Change::Same;
+    if path >= bounds[18 * p + q] {
+        return true;
     }
-    if through + bounds[18 * k + i] < 0 {
-        return Change::Empty;
+    if path + bounds[18 * q + p] < 0 {
+        return false;
     }
-    bounds[18 * i + k] = through;
-    Change::Lower
+    bounds[18 * p + q] = path;
+    true
 }
 
-/// Lowers the bounds on `i` to those of the paths through `j`.
-pub(crate) fn relax_row(bounds: &mut [i128; CELLS], vars: usize, i: usize, j: usize) -> Change
+/// Lowers the bounds on `p` to those of the paths to `j`, which have the length `through`, and on. False where no point is
+/// left.
+fn relax_row(bounds: &mut [i128; CELLS], vars: usize, j: usize, p: usize, through: i128) -> bool
     requires vars { vars ≤ 17 }
-    requires i { i ≤ vars }
     requires j { j ≤ vars }
+    requires p { p ≤ vars }
     requires reach { AreInReach bounds.old }
-    ensures relaxes { Relaxes result (λ n. IsClosed n vars) vars bounds.old bounds.new }
-    ensures paths { result ≡ Change.Same → (k : ℕ) → k ≤ vars → HasPath bounds.old i j k }
+    requires through { IsInReach through }
+    ensures full { length bounds.new ≡ 324 }
+    ensures settles { Settles (λ n. IsClosed n vars × (n p j ≤ℤ through)) vars bounds.old bounds.new }
+    ensures row { IsTrue result → (q : ℕ) → q ≤ vars → bound_at bounds.new p q ≡ int_min (bound_at bounds.old p q) (through +ℤ bound_at bounds.old j q) }
+    ensures others { IsTrue result → (r q : ℕ) → q < 18 → r ≢ p ⊎ vars < q → bound_at bounds.new r q ≡ bound_at bounds.old r q }
+    ensures empty { IsFalse result → (n : ℕ → ℕ → ℤ) → IsClosed n vars → n p j ≤ℤ through → ¬ Below n vars bounds.old }
 {
-    let mut change = Change::Same;
-    for k in 0..vars + 1 {
-        match relax(bounds, vars, i, j, k) {
-            Change::Same => {}
-            Change::Lower => change = Change::Lower,
-            Change::Empty => return Change::Empty,
+    for q in 0..vars + 1 {
+        let path = through + bounds[18 * j + q];
+        if !shorten(bounds, vars, p, q, path) {
+            return false;
         }
     }
-    change
+    true
 }
 
-/// Lowers every bound to that of the path through `j`.
-pub(crate) fn relax_through(bounds: &mut [i128; CELLS], vars: usize, j: usize) -> Change
+/// Lowers every bound to that of the path through `j`. False where no point is left.
+fn relax_through(bounds: &mut [i128; CELLS], vars: usize, j: usize) -> bool
     requires vars { vars ≤ 17 }
     requires j { j ≤ vars }
     requires reach { AreInReach bounds.old }
-    ensures relaxes { Relaxes result (λ n. IsClosed n vars) vars bounds.old bounds.new }
-    ensures paths { result ≡ Change.Same → (i : ℕ) → i ≤ vars → (k : ℕ) → k ≤ vars → HasPath bounds.old i j k }
+    ensures full { length bounds.new ≡ 324 }
+    ensures settles { Settles (λ n. IsClosed n vars) vars bounds.old bounds.new }
+    ensures cycle { IsTrue result → pos 0 ≤ℤ bound_at bounds.old j j }
+    ensures lowered { IsTrue result → (p q : ℕ) → p ≤ vars → q ≤ vars → bound_at bounds.new p q ≡ through_bound bounds.old j j (pos 0) p q }
+    ensures empty { IsFalse result → (n : ℕ → ℕ → ℤ) → IsClosed n vars → ¬ Below n vars bounds.old }
 {
-    let mut change = Change::Same;
-    for i in 0..vars + 1 {
-        match relax_row(bounds, vars, i, j) {
-            Change::Same => {}
-            Change::Lower => change = Change::Lower,
-            Change::Empty => return Change::Empty,
+    if bounds[18 * j + j] < 0 {
+        return false;
+    }
+    for p in 0..vars + 1 {
+        let through = bounds[18 * p + j];
+        if !relax_row(bounds, vars, j, p, through) {
+            return false;
         }
     }
-    change
+    true
 }
 
-/// Lowers every bound to those of the paths through each thing in turn.
-pub(crate) fn relax_all(bounds: &mut [i128; CELLS], vars: usize) -> Change
+/// Closes the bounds: lowers each to the shortest path, through each thing in turn (Floyd's shortest paths). What has no
+/// cycle below 0 is closed behind the last, so that no second look is needed. False where no point is left.
+fn close(bounds: &mut [i128; CELLS], vars: usize) -> bool
     requires vars { vars ≤ 17 }
     requires reach { AreInReach bounds.old }
-    ensures relaxes { Relaxes result (λ n. IsClosed n vars) vars bounds.old bounds.new }
-    ensures paths { result ≡ Change.Same → (j : ℕ) → j ≤ vars → (i : ℕ) → i ≤ vars → (k : ℕ) → k ≤ vars → HasPath bounds.old i j k }
+    requires top { (i : ℕ) → i ≤ vars → bound_at bounds.old i i ≤ℤ pos 0 }
+    ensures full { length bounds.new ≡ 324 }
+    ensures settles { Settles (λ n. IsClosed n vars) vars bounds.old bounds.new }
+    ensures closed { IsTrue result → IsClosed (bound_at bounds.new) vars }
+    ensures empty { IsFalse result → (n : ℕ → ℕ → ℤ) → IsClosed n vars → ¬ Below n vars bounds.old }
 {
-    let mut change = Change::Same;
     for j in 0..vars + 1 {
-        match relax_through(bounds, vars, j) {
-            Change::Same => {}
-            Change::Lower => change = Change::Lower,
-            Change::Empty => return Change::Empty,
+        if !relax_through(bounds, vars, j) {
+            return false;
         }
     }
-    change
+    true
 }
 
 /// Takes a bound against 0 of a marked variable off 0.
@@ -152,56 +161,9 @@ pub(crate) fn tighten(bounds: &mut [i128; CELLS], marks: &[bool; 18], vars: usiz
         match tighten_at(bounds, marks, vars, i) {
             Change::Same => {}
             Change::Lower => change = Change::Lower,
-            Change::Empty => return Change::Empty,
         }
     }
     change
-}
-
-/// Lowers bounds by paths, or, where no path does, by marks.
-pub(crate) fn round(bounds: &mut [i128; CELLS], marks: &[bool; 18], vars: usize) -> Change
-    requires vars { vars ≤ 17 }
-    requires reach { AreInReach bounds.old }
-    ensures relaxes { Relaxes result (λ n. IsTight n marks.now vars) vars bounds.old bounds.new }
-    ensures paths { result ≡ Change.Same → (j : ℕ) → j ≤ vars → (i : ℕ) → i ≤ vars → (k : ℕ) → k ≤ vars → HasPath bounds.old i j k }
-    ensures off { result ≡ Change.Same → (i : ℕ) → i ≤ vars → 1 ≤ i → IsMarkedIn marks.now i → IsOffZero bounds.old i }
-{
-    match relax_all(bounds, vars) {
-        Change::Same => tighten(bounds, marks, vars),
-        change => change,
-    }
-}
-
-/// Lowers the bounds as far as paths and marks go; false where no point is left.
-pub(crate) fn settle(bounds: &mut [i128; CELLS], marks: &[bool; 18], vars: usize) -> bool
-    requires vars { vars ≤ 17 }
-    requires reach { AreInReach bounds.old }
-    requires top { (i : ℕ) → i ≤ vars → bound_at bounds.old i i ≤ℤ pos 0 }
-    ensures full { length bounds.new ≡ 324 }
-    ensures settles { Settles (λ n. IsTight n marks.now vars) vars bounds.old bounds.new }
-    ensures tight { IsTrue result → IsTight (bound_at bounds.new) marks.now vars }
-    ensures empty { IsFalse result → (n : ℕ → ℕ → ℤ) → IsTight n marks.now vars → ¬ Below n vars bounds.old }
-{
-    loop {
-        match round(bounds, marks, vars) {
-            Change::Same => return true,
-            Change::Lower => {}
-            Change::Empty => return false,
-        }
-    }
-}
-
-/// Whether no bound against 0 of a marked variable is 0.
-fn is_off_zero(bounds: &[i128; CELLS], marks: &[bool; 18], vars: usize) -> bool
-    requires { vars ≤ 17 }
-    ensures { IsTrue result → (i : ℕ) → i ≤ vars → 1 ≤ i → IsMarkedIn marks.now i → IsOffZero bounds.now i }
-{
-    for i in 1..vars + 1 {
-        if marks[i] && (bounds[18 * i] == 0 || bounds[i] == 0) {
-            return false;
-        }
-    }
-    true
 }
 
 /// Lowers closed bounds as far as marks, and paths after them, go; false where no point is left.
@@ -214,8 +176,26 @@ pub(crate) fn settle_closed(bounds: &mut [i128; CELLS], marks: &[bool; 18], vars
     ensures tight { IsTrue result → IsTight (bound_at bounds.new) marks.now vars }
     ensures empty { IsFalse result → (n : ℕ → ℕ → ℤ) → IsTight n marks.now vars → ¬ Below n vars bounds.old }
 {
-    if is_off_zero(bounds, marks, vars) {
-        return true;
+    while let Change::Lower = tighten(bounds, marks, vars) {
+        if !close(bounds, vars) {
+            return false;
+        }
     }
-    settle(bounds, marks, vars)
+    true
+}
+
+/// Lowers the bounds as far as paths and marks go; false where no point is left.
+pub(crate) fn settle(bounds: &mut [i128; CELLS], marks: &[bool; 18], vars: usize) -> bool
+    requires vars { vars ≤ 17 }
+    requires reach { AreInReach bounds.old }
+    requires top { (i : ℕ) → i ≤ vars → bound_at bounds.old i i ≤ℤ pos 0 }
+    ensures full { length bounds.new ≡ 324 }
+    ensures settles { Settles (λ n. IsTight n marks.now vars) vars bounds.old bounds.new }
+    ensures tight { IsTrue result → IsTight (bound_at bounds.new) marks.now vars }
+    ensures empty { IsFalse result → (n : ℕ → ℕ → ℤ) → IsTight n marks.now vars → ¬ Below n vars bounds.old }
+{
+    if !close(bounds, vars) {
+        return false;
+    }
+    settle_closed(bounds, marks, vars)
 }

@@ -1,20 +1,31 @@
 ghost use Rattle.std.specs.Prelude.{◌≡◌, ◌≢◌, ◌⊎◌, ◌<◌, ◌≤◌, ◌+◌, ◌-◌, ◌^◌, ℕ, pos, negsuc, ◌+ℤ◌, ◌≤ℤ◌, length, get_or};
 ghost use Rattle.std.specs.Int.{int_min};
-ghost use Rattle.vmv_zone.specs.Bounds.{IsInReach, AreInReach, AreUnderTop, AreZeroOutside, IsClosed, IsWide, IsTable, IsTableBy, bound_at, top_bound, inner_bound, extended_bound, dropped_bound, freed_bound, through_bound};
-ghost use Rattle.vmv_zone.specs.Lines.{LineSet, ColumnCopied, RowCopied};
+ghost use Rattle.vmv_zone.specs.Bounds.{IsInReach, AreInReach, AreUnderTop, AreZeroOutside, IsClosed, IsWide, IsTable, IsTableBy, bound_at, top_bound, extended_bound, dropped_bound, freed_bound, through_bound};
+ghost use Rattle.vmv_zone.specs.Lines.{LineSet, ColumnCopied, RowCopied, RowFilled};
 
 use crate::paths::CELLS;
 
-/// Top's bounds.
-pub(crate) fn top_bounds(vars: usize) -> [i128; CELLS]
-    requires { vars ≤ 17 }
-    ensures { IsTable top_bound vars result }
+/// Fills in top's bounds, where there are none.
+pub(crate) fn fill_top(bounds: &mut [i128; CELLS], vars: usize)
+    requires few { vars ≤ 17 }
+    requires zeros { (k : ℕ) → get_or bounds.old k (pos 0) ≡ pos 0 }
+    ensures { IsTableBy (λ i j b. b ≡ top_bound i j) vars bounds.new }
 {
-    let mut bounds = [0; CELLS];
-    for place in 0..18 * (vars + 1) {
-        bounds[place] = top_inside(vars, place / 18, place % 18);
+    for i in 0..vars + 1 {
+        top_row(bounds, vars, i);
     }
-    bounds
+}
+
+/// Fills in top's bounds on `i`.
+fn top_row(bounds: &mut [i128; CELLS], vars: usize, i: usize)
+    requires few { vars ≤ 17 }
+    requires i { i ≤ vars }
+    requires reach { AreInReach bounds.old }
+    ensures { RowFilled (λ j b. b ≡ top_bound i j) bounds.old bounds.new i (vars + 1) }
+{
+    for j in 0..vars + 1 {
+        bounds[18 * i + j] = top_of(i, j);
+    }
 }
 
 /// The bound on `i - j` that words keep.
@@ -30,16 +41,6 @@ pub(crate) fn top_of(i: usize, j: usize) -> i128
     } else {
         u64::MAX as i128
     }
-}
-
-/// Top's bound on `i - j` where `j` is one of the things, else 0.
-fn top_inside(vars: usize, i: usize, j: usize) -> i128
-    ensures { result ≡ inner_bound vars j (top_bound i j) }
-{
-    if j > vars {
-        return 0;
-    }
-    top_of(i, j)
 }
 
 /// Adds the bounds on the variable `last`, as words and the bounds against 0 keep them. There are none on it before.
@@ -89,7 +90,8 @@ fn extended_at(bounds: &[i128; CELLS], last: usize, i: usize, j: usize) -> i128
 
 /// Closes the closed bounds again with the bound on `i - j` lowered.
 ///
-/// A path that the lower bound shortens goes once over it, so one look at each pair of things is enough.
+/// A path that the lower bound shortens goes once over it, so one look at each pair of things is enough; and where it
+/// doesn't shorten the way from a thing to `j`, it shortens none from there.
 pub(crate) fn close_through(
     bounds: &mut [i128; CELLS],
     vars: usize,
@@ -109,7 +111,9 @@ pub(crate) fn close_through(
 {
     for p in 0..vars + 1 {
         let through = bounds[18 * p + i] + bound;
-        lower_row(bounds, vars, j, p, through);
+        if through < bounds[18 * p + j] {
+            lower_row(bounds, vars, j, p, through);
+        }
     }
 }
 

@@ -2,7 +2,7 @@ ghost use Rattle.std.specs.Prelude.{◌≡◌, ◌≤◌, ℕ, IsTrue, length};
 ghost use Rattle.vmv_zone.specs.Bounds.{AreInReach, AreUnderTop, AreZeroOutside, AreOnVariables, AreBlank};
 
 use crate::paths::CELLS;
-use crate::tables::{blank_bounds, free_bounds, top_bounds};
+use crate::tables::{blank_bounds, fill_top, free_bounds};
 
 /// An abstract state: bounds on the differences of up to 16 variables and 0, with a mark on each variable that is
 /// known not to be 0; or Bottom, which has no point.
@@ -35,13 +35,20 @@ impl Zone {
         ensures vars { vars_of result ≡ vars }
         ensures top { IsTop result }
     {
-        let bounds = top_bounds(vars as usize);
-        Zone {
-            vars,
-            bottom: false,
-            bounds,
-            marks: [false; 18],
-        }
+        let mut zone = Zone::none(vars);
+        zone.fill(vars);
+        zone
+    }
+
+    /// Makes this the state of all words over so many variables: top's bounds and no marks. Takes at most 16 variables.
+    pub fn fill(&mut self, vars: u8)
+        requires { vars ≤ 16 }
+        ensures vars { vars_of self.new ≡ vars }
+        ensures top { IsTop self.new }
+    {
+        self.empty(vars);
+        fill_top(&mut self.bounds, vars as usize);
+        self.bottom = false;
     }
 
     /// The state with no point. Takes at most 16 variables.

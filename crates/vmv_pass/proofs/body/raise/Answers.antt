@@ -18,7 +18,7 @@ pub pass_block-requires-clause-normal : goal.pass_block-requires-clause-normal
 pass_block-requires-clause-normal g c =
     let program = c.args.at.now.snapshot.now in
     let it = item_at (procs_of program) c.args.at.now.proc.0 c.requires.proc in
-    (enter_normal _ _ _ _ _ (c.enter-zone.ensures it.0 c.code-code.result.now it.1 c.code-code.ensures.kept)).0
+    (enter_normal _ _ _ _ _ (c.enter_into.ensures it.0 c.code-code.result.now it.1 c.code-code.ensures.kept)).0
 
 pub pass_block-requires-clause-few : goal.pass_block-requires-clause-few
 pass_block-requires-clause-few g c =
@@ -26,8 +26,8 @@ pass_block-requires-clause-few g c =
     let n = c.args.at.now.proc.0 in
     let it = item_at (procs_of program) n c.requires.proc in
     let proc : IsProc program n it.0 c.code-code.result.now = record { place = it.1; code_is = c.code-code.ensures.kept } in
-    let entered = c.enter-zone.ensures it.0 c.code-code.result.now it.1 c.code-code.ensures.kept in
-    (passable program n c.args.at.now.thresholds.now it.0 c.code-code.result.now (stored_of c.args.at.now c.args.keeps.now c.args.inputs.now c.args.unproved.now) c.enter-zone.result c.as_slice.result.now
+    let entered = c.enter_into.ensures it.0 c.code-code.result.now it.1 c.code-code.ensures.kept in
+    (passable program n c.args.at.now.thresholds.now it.0 c.code-code.result.now (stored_of c.args.at.now c.args.keeps.now c.args.inputs.now c.args.unproved.now) c.enter_into.new.into c.as_slice.result.now
     c.program-program.ensures.resolution proc (c.requires.fits it.0 c.code-code.result.now proc) entered.vars c.as_slice.ensures).few
 
 pub pass_block-requires-clause-ready : goal.pass_block-requires-clause-ready
@@ -36,8 +36,8 @@ pass_block-requires-clause-ready g c =
     let n = c.args.at.now.proc.0 in
     let it = item_at (procs_of program) n c.requires.proc in
     let proc : IsProc program n it.0 c.code-code.result.now = record { place = it.1; code_is = c.code-code.ensures.kept } in
-    let entered = c.enter-zone.ensures it.0 c.code-code.result.now it.1 c.code-code.ensures.kept in
-    (passable program n c.args.at.now.thresholds.now it.0 c.code-code.result.now (stored_of c.args.at.now c.args.keeps.now c.args.inputs.now c.args.unproved.now) c.enter-zone.result c.as_slice.result.now
+    let entered = c.enter_into.ensures it.0 c.code-code.result.now it.1 c.code-code.ensures.kept in
+    (passable program n c.args.at.now.thresholds.now it.0 c.code-code.result.now (stored_of c.args.at.now c.args.keeps.now c.args.inputs.now c.args.unproved.now) c.enter_into.new.into c.as_slice.result.now
     c.program-program.ensures.resolution proc (c.requires.fits it.0 c.code-code.result.now proc) entered.vars c.as_slice.ensures).ready
 
 pub pass_block-requires-clause-sites : goal.pass_block-requires-clause-sites
@@ -46,8 +46,8 @@ pass_block-requires-clause-sites g c =
     let n = c.args.at.now.proc.0 in
     let it = item_at (procs_of program) n c.requires.proc in
     let proc : IsProc program n it.0 c.code-code.result.now = record { place = it.1; code_is = c.code-code.ensures.kept } in
-    let entered = c.enter-zone.ensures it.0 c.code-code.result.now it.1 c.code-code.ensures.kept in
-    (passable program n c.args.at.now.thresholds.now it.0 c.code-code.result.now (stored_of c.args.at.now c.args.keeps.now c.args.inputs.now c.args.unproved.now) c.enter-zone.result c.as_slice.result.now
+    let entered = c.enter_into.ensures it.0 c.code-code.result.now it.1 c.code-code.ensures.kept in
+    (passable program n c.args.at.now.thresholds.now it.0 c.code-code.result.now (stored_of c.args.at.now c.args.keeps.now c.args.inputs.now c.args.unproved.now) c.enter_into.new.into c.as_slice.result.now
     c.program-program.ensures.resolution proc (c.requires.fits it.0 c.code-code.result.now proc) entered.vars c.as_slice.ensures).sites
 
 pub pass_block-requires-clause-kept : goal.pass_block-requires-clause-kept
@@ -56,8 +56,8 @@ pass_block-requires-clause-kept g c =
     let n = c.args.at.now.proc.0 in
     let it = item_at (procs_of program) n c.requires.proc in
     let proc : IsProc program n it.0 c.code-code.result.now = record { place = it.1; code_is = c.code-code.ensures.kept } in
-    let entered = c.enter-zone.ensures it.0 c.code-code.result.now it.1 c.code-code.ensures.kept in
-    (passable program n c.args.at.now.thresholds.now it.0 c.code-code.result.now (stored_of c.args.at.now c.args.keeps.now c.args.inputs.now c.args.unproved.now) c.enter-zone.result c.as_slice.result.now
+    let entered = c.enter_into.ensures it.0 c.code-code.result.now it.1 c.code-code.ensures.kept in
+    (passable program n c.args.at.now.thresholds.now it.0 c.code-code.result.now (stored_of c.args.at.now c.args.keeps.now c.args.inputs.now c.args.unproved.now) c.enter_into.new.into c.as_slice.result.now
     c.program-program.ensures.resolution proc (c.requires.fits it.0 c.code-code.result.now proc) entered.vars c.as_slice.ensures).kept
 
 pub pass_block-requires-clause-called : goal.pass_block-requires-clause-called
@@ -66,8 +66,8 @@ pass_block-requires-clause-called g c =
     let n = c.args.at.now.proc.0 in
     let it = item_at (procs_of program) n c.requires.proc in
     let proc : IsProc program n it.0 c.code-code.result.now = record { place = it.1; code_is = c.code-code.ensures.kept } in
-    let entered = c.enter-zone.ensures it.0 c.code-code.result.now it.1 c.code-code.ensures.kept in
-    (passable program n c.args.at.now.thresholds.now it.0 c.code-code.result.now (stored_of c.args.at.now c.args.keeps.now c.args.inputs.now c.args.unproved.now) c.enter-zone.result c.as_slice.result.now
+    let entered = c.enter_into.ensures it.0 c.code-code.result.now it.1 c.code-code.ensures.kept in
+    (passable program n c.args.at.now.thresholds.now it.0 c.code-code.result.now (stored_of c.args.at.now c.args.keeps.now c.args.inputs.now c.args.unproved.now) c.enter_into.new.into c.as_slice.result.now
     c.program-program.ensures.resolution proc (c.requires.fits it.0 c.code-code.result.now proc) entered.vars c.as_slice.ensures).called
 
 pub pass_block-requires-clause-calls : goal.pass_block-requires-clause-calls
@@ -76,8 +76,8 @@ pass_block-requires-clause-calls g c =
     let n = c.args.at.now.proc.0 in
     let it = item_at (procs_of program) n c.requires.proc in
     let proc : IsProc program n it.0 c.code-code.result.now = record { place = it.1; code_is = c.code-code.ensures.kept } in
-    let entered = c.enter-zone.ensures it.0 c.code-code.result.now it.1 c.code-code.ensures.kept in
-    (passable program n c.args.at.now.thresholds.now it.0 c.code-code.result.now (stored_of c.args.at.now c.args.keeps.now c.args.inputs.now c.args.unproved.now) c.enter-zone.result c.as_slice.result.now
+    let entered = c.enter_into.ensures it.0 c.code-code.result.now it.1 c.code-code.ensures.kept in
+    (passable program n c.args.at.now.thresholds.now it.0 c.code-code.result.now (stored_of c.args.at.now c.args.keeps.now c.args.inputs.now c.args.unproved.now) c.enter_into.new.into c.as_slice.result.now
     c.program-program.ensures.resolution proc (c.requires.fits it.0 c.code-code.result.now proc) entered.vars c.as_slice.ensures).calls
 
 pub pass_block-requires-clause-results : goal.pass_block-requires-clause-results
@@ -86,8 +86,8 @@ pass_block-requires-clause-results g c =
     let n = c.args.at.now.proc.0 in
     let it = item_at (procs_of program) n c.requires.proc in
     let proc : IsProc program n it.0 c.code-code.result.now = record { place = it.1; code_is = c.code-code.ensures.kept } in
-    let entered = c.enter-zone.ensures it.0 c.code-code.result.now it.1 c.code-code.ensures.kept in
-    (passable program n c.args.at.now.thresholds.now it.0 c.code-code.result.now (stored_of c.args.at.now c.args.keeps.now c.args.inputs.now c.args.unproved.now) c.enter-zone.result c.as_slice.result.now
+    let entered = c.enter_into.ensures it.0 c.code-code.result.now it.1 c.code-code.ensures.kept in
+    (passable program n c.args.at.now.thresholds.now it.0 c.code-code.result.now (stored_of c.args.at.now c.args.keeps.now c.args.inputs.now c.args.unproved.now) c.enter_into.new.into c.as_slice.result.now
     c.program-program.ensures.resolution proc (c.requires.fits it.0 c.code-code.result.now proc) entered.vars c.as_slice.ensures).results
 
 pub range_normed-requires-clause-operand : goal.range_normed-requires-clause-operand
@@ -96,7 +96,7 @@ range_normed-requires-clause-operand g c =
     let n = c.args.at.now.proc.0 in
     let it = item_at (procs_of program) n c.requires.proc in
     let proc : IsProc program n it.0 c.code-code.result.now = record { place = it.1; code_is = c.code-code.ensures.kept } in
-    let entered = c.enter-zone.ensures it.0 c.code-code.result.now it.1 c.code-code.ensures.kept in
+    let entered = c.enter_into.ensures it.0 c.code-code.result.now it.1 c.code-code.ensures.kept in
     let size = c.pass_block.ensures.vars ∙ entered.vars in
     subst (λ (x : ZoneOperand). IsOperand c.pass_block.new.zone.vars x) (sym c.zone_operand.ensures)
     (subst (λ v. IsOperand v (zone_operand c.code-code.result.now.result)) (sym size) (facts_of program n it.0 c.code-code.result.now c.program-program.ensures.resolution proc).output)
@@ -112,15 +112,15 @@ returns-clause-keeps_stay g c still =
     let S = (lists c.args.keeps.now c.args.inputs.now c.args.unproved.now false c.args.steps.now) in
     let S' = (lists c.pass_block.new.keeps c.pass_block.new.inputs c.pass_block.new.unproved c.pass_block.new.mark.raised c.pass_block.new.steps) in
     let same : c.code-code.result.now ≡ code = some_same (sym c.code-code.ensures.kept ∙ proc.code_is) in
-    let run : Run program item code (given_of c.args.at.now) c.args.at.now.input.now c.enter-zone.result c.pass_block.new.zone c.range_normed.result S S' = record {
+    let run : Run program item code (given_of c.args.at.now) c.args.at.now.input.now c.enter_into.new.into c.pass_block.new.zone c.range_normed.result S S' = record {
       facts = facts_of program n item code c.program-program.ensures.resolution proc;
-      entered = c.enter-zone.ensures item code proc.place proc.code_is;
-      moves = subst (λ (b : List CodeStmt). MovesAll (given_of c.args.at.now) 0 0 (block_of b) c.enter-zone.result S c.pass_block.new.zone S') (c.as_slice.ensures ∙ ap (λ (x : Code). x.block) same) c.pass_block.ensures.moves;
+      entered = c.enter_into.ensures item code proc.place proc.code_is;
+      moves = subst (λ (b : List CodeStmt). MovesAll (given_of c.args.at.now) 0 0 (block_of b) c.enter_into.new.into S c.pass_block.new.zone S') (c.as_slice.ensures ∙ ap (λ (x : Code). x.block) same) c.pass_block.ensures.moves;
       read = subst (λ (x : ZoneOperand). IsRangeOf c.pass_block.new.zone x c.range_normed.result) (c.zone_operand.ensures ∙ ap (λ (x : Code). zone_operand x.result) same) c.range_normed.ensures;
       fits = c.requires.fits item code proc;
       begun = refl;
     } in
-    (run_stays program item code (given_of c.args.at.now) c.args.at.now.input.now c.enter-zone.result c.pass_block.new.zone c.range_normed.result S S' run still).keeps
+    (run_stays program item code (given_of c.args.at.now) c.args.at.now.input.now c.enter_into.new.into c.pass_block.new.zone c.range_normed.result S S' run still).keeps
 
 pub returns-clause-inputs_stay : goal.returns-clause-inputs_stay
 returns-clause-inputs_stay g c still =
@@ -133,15 +133,15 @@ returns-clause-inputs_stay g c still =
     let S = (lists c.args.keeps.now c.args.inputs.now c.args.unproved.now false c.args.steps.now) in
     let S' = (lists c.pass_block.new.keeps c.pass_block.new.inputs c.pass_block.new.unproved c.pass_block.new.mark.raised c.pass_block.new.steps) in
     let same : c.code-code.result.now ≡ code = some_same (sym c.code-code.ensures.kept ∙ proc.code_is) in
-    let run : Run program item code (given_of c.args.at.now) c.args.at.now.input.now c.enter-zone.result c.pass_block.new.zone c.range_normed.result S S' = record {
+    let run : Run program item code (given_of c.args.at.now) c.args.at.now.input.now c.enter_into.new.into c.pass_block.new.zone c.range_normed.result S S' = record {
       facts = facts_of program n item code c.program-program.ensures.resolution proc;
-      entered = c.enter-zone.ensures item code proc.place proc.code_is;
-      moves = subst (λ (b : List CodeStmt). MovesAll (given_of c.args.at.now) 0 0 (block_of b) c.enter-zone.result S c.pass_block.new.zone S') (c.as_slice.ensures ∙ ap (λ (x : Code). x.block) same) c.pass_block.ensures.moves;
+      entered = c.enter_into.ensures item code proc.place proc.code_is;
+      moves = subst (λ (b : List CodeStmt). MovesAll (given_of c.args.at.now) 0 0 (block_of b) c.enter_into.new.into S c.pass_block.new.zone S') (c.as_slice.ensures ∙ ap (λ (x : Code). x.block) same) c.pass_block.ensures.moves;
       read = subst (λ (x : ZoneOperand). IsRangeOf c.pass_block.new.zone x c.range_normed.result) (c.zone_operand.ensures ∙ ap (λ (x : Code). zone_operand x.result) same) c.range_normed.ensures;
       fits = c.requires.fits item code proc;
       begun = refl;
     } in
-    (run_stays program item code (given_of c.args.at.now) c.args.at.now.input.now c.enter-zone.result c.pass_block.new.zone c.range_normed.result S S' run still).inputs
+    (run_stays program item code (given_of c.args.at.now) c.args.at.now.input.now c.enter_into.new.into c.pass_block.new.zone c.range_normed.result S S' run still).inputs
 
 pub returns-clause-settled : goal.returns-clause-settled
 returns-clause-settled g c still item code proc =
@@ -150,15 +150,15 @@ returns-clause-settled g c still item code proc =
     let S = (lists c.args.keeps.now c.args.inputs.now c.args.unproved.now false c.args.steps.now) in
     let S' = (lists c.pass_block.new.keeps c.pass_block.new.inputs c.pass_block.new.unproved c.pass_block.new.mark.raised c.pass_block.new.steps) in
     let same : c.code-code.result.now ≡ code = some_same (sym c.code-code.ensures.kept ∙ proc.code_is) in
-    let run : Run program item code (given_of c.args.at.now) c.args.at.now.input.now c.enter-zone.result c.pass_block.new.zone c.range_normed.result S S' = record {
+    let run : Run program item code (given_of c.args.at.now) c.args.at.now.input.now c.enter_into.new.into c.pass_block.new.zone c.range_normed.result S S' = record {
       facts = facts_of program n item code c.program-program.ensures.resolution proc;
-      entered = c.enter-zone.ensures item code proc.place proc.code_is;
-      moves = subst (λ (b : List CodeStmt). MovesAll (given_of c.args.at.now) 0 0 (block_of b) c.enter-zone.result S c.pass_block.new.zone S') (c.as_slice.ensures ∙ ap (λ (x : Code). x.block) same) c.pass_block.ensures.moves;
+      entered = c.enter_into.ensures item code proc.place proc.code_is;
+      moves = subst (λ (b : List CodeStmt). MovesAll (given_of c.args.at.now) 0 0 (block_of b) c.enter_into.new.into S c.pass_block.new.zone S') (c.as_slice.ensures ∙ ap (λ (x : Code). x.block) same) c.pass_block.ensures.moves;
       read = subst (λ (x : ZoneOperand). IsRangeOf c.pass_block.new.zone x c.range_normed.result) (c.zone_operand.ensures ∙ ap (λ (x : Code). zone_operand x.result) same) c.range_normed.ensures;
       fits = c.requires.fits item code proc;
       begun = refl;
     } in
-    run_settles program item code (given_of c.args.at.now) c.args.at.now.input.now c.enter-zone.result c.pass_block.new.zone c.range_normed.result S S' run still
+    run_settles program item code (given_of c.args.at.now) c.args.at.now.input.now c.enter_into.new.into c.pass_block.new.zone c.range_normed.result S S' run still
 
 pub returns-clause-fits : goal.returns-clause-fits
 returns-clause-fits g c item code proc =
@@ -167,15 +167,15 @@ returns-clause-fits g c item code proc =
     let S = (lists c.args.keeps.now c.args.inputs.now c.args.unproved.now false c.args.steps.now) in
     let S' = (lists c.pass_block.new.keeps c.pass_block.new.inputs c.pass_block.new.unproved c.pass_block.new.mark.raised c.pass_block.new.steps) in
     let same : c.code-code.result.now ≡ code = some_same (sym c.code-code.ensures.kept ∙ proc.code_is) in
-    let run : Run program item code (given_of c.args.at.now) c.args.at.now.input.now c.enter-zone.result c.pass_block.new.zone c.range_normed.result S S' = record {
+    let run : Run program item code (given_of c.args.at.now) c.args.at.now.input.now c.enter_into.new.into c.pass_block.new.zone c.range_normed.result S S' = record {
       facts = facts_of program n item code c.program-program.ensures.resolution proc;
-      entered = c.enter-zone.ensures item code proc.place proc.code_is;
-      moves = subst (λ (b : List CodeStmt). MovesAll (given_of c.args.at.now) 0 0 (block_of b) c.enter-zone.result S c.pass_block.new.zone S') (c.as_slice.ensures ∙ ap (λ (x : Code). x.block) same) c.pass_block.ensures.moves;
+      entered = c.enter_into.ensures item code proc.place proc.code_is;
+      moves = subst (λ (b : List CodeStmt). MovesAll (given_of c.args.at.now) 0 0 (block_of b) c.enter_into.new.into S c.pass_block.new.zone S') (c.as_slice.ensures ∙ ap (λ (x : Code). x.block) same) c.pass_block.ensures.moves;
       read = subst (λ (x : ZoneOperand). IsRangeOf c.pass_block.new.zone x c.range_normed.result) (c.zone_operand.ensures ∙ ap (λ (x : Code). zone_operand x.result) same) c.range_normed.ensures;
       fits = c.requires.fits item code proc;
       begun = refl;
     } in
-    run_fits program item code (given_of c.args.at.now) c.args.at.now.input.now c.enter-zone.result c.pass_block.new.zone c.range_normed.result S S' run
+    run_fits program item code (given_of c.args.at.now) c.args.at.now.input.now c.enter_into.new.into c.pass_block.new.zone c.range_normed.result S S' run
 
 pub returns-clause-keeps_rise : goal.returns-clause-keeps_rise
 returns-clause-keeps_rise g c =
@@ -188,15 +188,15 @@ returns-clause-keeps_rise g c =
     let S = (lists c.args.keeps.now c.args.inputs.now c.args.unproved.now false c.args.steps.now) in
     let S' = (lists c.pass_block.new.keeps c.pass_block.new.inputs c.pass_block.new.unproved c.pass_block.new.mark.raised c.pass_block.new.steps) in
     let same : c.code-code.result.now ≡ code = some_same (sym c.code-code.ensures.kept ∙ proc.code_is) in
-    let run : Run program item code (given_of c.args.at.now) c.args.at.now.input.now c.enter-zone.result c.pass_block.new.zone c.range_normed.result S S' = record {
+    let run : Run program item code (given_of c.args.at.now) c.args.at.now.input.now c.enter_into.new.into c.pass_block.new.zone c.range_normed.result S S' = record {
       facts = facts_of program n item code c.program-program.ensures.resolution proc;
-      entered = c.enter-zone.ensures item code proc.place proc.code_is;
-      moves = subst (λ (b : List CodeStmt). MovesAll (given_of c.args.at.now) 0 0 (block_of b) c.enter-zone.result S c.pass_block.new.zone S') (c.as_slice.ensures ∙ ap (λ (x : Code). x.block) same) c.pass_block.ensures.moves;
+      entered = c.enter_into.ensures item code proc.place proc.code_is;
+      moves = subst (λ (b : List CodeStmt). MovesAll (given_of c.args.at.now) 0 0 (block_of b) c.enter_into.new.into S c.pass_block.new.zone S') (c.as_slice.ensures ∙ ap (λ (x : Code). x.block) same) c.pass_block.ensures.moves;
       read = subst (λ (x : ZoneOperand). IsRangeOf c.pass_block.new.zone x c.range_normed.result) (c.zone_operand.ensures ∙ ap (λ (x : Code). zone_operand x.result) same) c.range_normed.ensures;
       fits = c.requires.fits item code proc;
       begun = refl;
     } in
-    (run_grown program item code (given_of c.args.at.now) c.args.at.now.input.now c.enter-zone.result c.pass_block.new.zone c.range_normed.result S S' run).keeps
+    (run_grown program item code (given_of c.args.at.now) c.args.at.now.input.now c.enter_into.new.into c.pass_block.new.zone c.range_normed.result S S' run).keeps
 
 pub returns-clause-inputs_rise : goal.returns-clause-inputs_rise
 returns-clause-inputs_rise g c =
@@ -209,15 +209,15 @@ returns-clause-inputs_rise g c =
     let S = (lists c.args.keeps.now c.args.inputs.now c.args.unproved.now false c.args.steps.now) in
     let S' = (lists c.pass_block.new.keeps c.pass_block.new.inputs c.pass_block.new.unproved c.pass_block.new.mark.raised c.pass_block.new.steps) in
     let same : c.code-code.result.now ≡ code = some_same (sym c.code-code.ensures.kept ∙ proc.code_is) in
-    let run : Run program item code (given_of c.args.at.now) c.args.at.now.input.now c.enter-zone.result c.pass_block.new.zone c.range_normed.result S S' = record {
+    let run : Run program item code (given_of c.args.at.now) c.args.at.now.input.now c.enter_into.new.into c.pass_block.new.zone c.range_normed.result S S' = record {
       facts = facts_of program n item code c.program-program.ensures.resolution proc;
-      entered = c.enter-zone.ensures item code proc.place proc.code_is;
-      moves = subst (λ (b : List CodeStmt). MovesAll (given_of c.args.at.now) 0 0 (block_of b) c.enter-zone.result S c.pass_block.new.zone S') (c.as_slice.ensures ∙ ap (λ (x : Code). x.block) same) c.pass_block.ensures.moves;
+      entered = c.enter_into.ensures item code proc.place proc.code_is;
+      moves = subst (λ (b : List CodeStmt). MovesAll (given_of c.args.at.now) 0 0 (block_of b) c.enter_into.new.into S c.pass_block.new.zone S') (c.as_slice.ensures ∙ ap (λ (x : Code). x.block) same) c.pass_block.ensures.moves;
       read = subst (λ (x : ZoneOperand). IsRangeOf c.pass_block.new.zone x c.range_normed.result) (c.zone_operand.ensures ∙ ap (λ (x : Code). zone_operand x.result) same) c.range_normed.ensures;
       fits = c.requires.fits item code proc;
       begun = refl;
     } in
-    (run_grown program item code (given_of c.args.at.now) c.args.at.now.input.now c.enter-zone.result c.pass_block.new.zone c.range_normed.result S S' run).inputs
+    (run_grown program item code (given_of c.args.at.now) c.args.at.now.input.now c.enter_into.new.into c.pass_block.new.zone c.range_normed.result S S' run).inputs
 
 pub returns-clause-falls : goal.returns-clause-falls
 returns-clause-falls g c raised =
@@ -230,15 +230,15 @@ returns-clause-falls g c raised =
     let S = (lists c.args.keeps.now c.args.inputs.now c.args.unproved.now false c.args.steps.now) in
     let S' = (lists c.pass_block.new.keeps c.pass_block.new.inputs c.pass_block.new.unproved c.pass_block.new.mark.raised c.pass_block.new.steps) in
     let same : c.code-code.result.now ≡ code = some_same (sym c.code-code.ensures.kept ∙ proc.code_is) in
-    let run : Run program item code (given_of c.args.at.now) c.args.at.now.input.now c.enter-zone.result c.pass_block.new.zone c.range_normed.result S S' = record {
+    let run : Run program item code (given_of c.args.at.now) c.args.at.now.input.now c.enter_into.new.into c.pass_block.new.zone c.range_normed.result S S' = record {
       facts = facts_of program n item code c.program-program.ensures.resolution proc;
-      entered = c.enter-zone.ensures item code proc.place proc.code_is;
-      moves = subst (λ (b : List CodeStmt). MovesAll (given_of c.args.at.now) 0 0 (block_of b) c.enter-zone.result S c.pass_block.new.zone S') (c.as_slice.ensures ∙ ap (λ (x : Code). x.block) same) c.pass_block.ensures.moves;
+      entered = c.enter_into.ensures item code proc.place proc.code_is;
+      moves = subst (λ (b : List CodeStmt). MovesAll (given_of c.args.at.now) 0 0 (block_of b) c.enter_into.new.into S c.pass_block.new.zone S') (c.as_slice.ensures ∙ ap (λ (x : Code). x.block) same) c.pass_block.ensures.moves;
       read = subst (λ (x : ZoneOperand). IsRangeOf c.pass_block.new.zone x c.range_normed.result) (c.zone_operand.ensures ∙ ap (λ (x : Code). zone_operand x.result) same) c.range_normed.ensures;
       fits = c.requires.fits item code proc;
       begun = refl;
     } in
-    run_falls program item code (given_of c.args.at.now) c.args.at.now.input.now c.enter-zone.result c.pass_block.new.zone c.range_normed.result S S' run raised
+    run_falls program item code (given_of c.args.at.now) c.args.at.now.input.now c.enter_into.new.into c.pass_block.new.zone c.range_normed.result S S' run raised
 
 pub returns-clause-under : goal.returns-clause-under
 returns-clause-under g c source item code e calls upper under =
@@ -248,15 +248,15 @@ returns-clause-under g c source item code e calls upper under =
     let S = (lists c.args.keeps.now c.args.inputs.now c.args.unproved.now false c.args.steps.now) in
     let S' = (lists c.pass_block.new.keeps c.pass_block.new.inputs c.pass_block.new.unproved c.pass_block.new.mark.raised c.pass_block.new.steps) in
     let same : c.code-code.result.now ≡ code = some_same (sym c.code-code.ensures.kept ∙ proc.code_is) in
-    let run : Run program item code (given_of c.args.at.now) c.args.at.now.input.now c.enter-zone.result c.pass_block.new.zone c.range_normed.result S S' = record {
+    let run : Run program item code (given_of c.args.at.now) c.args.at.now.input.now c.enter_into.new.into c.pass_block.new.zone c.range_normed.result S S' = record {
       facts = facts_of program n item code c.program-program.ensures.resolution proc;
-      entered = c.enter-zone.ensures item code proc.place proc.code_is;
-      moves = subst (λ (b : List CodeStmt). MovesAll (given_of c.args.at.now) 0 0 (block_of b) c.enter-zone.result S c.pass_block.new.zone S') (c.as_slice.ensures ∙ ap (λ (x : Code). x.block) same) c.pass_block.ensures.moves;
+      entered = c.enter_into.ensures item code proc.place proc.code_is;
+      moves = subst (λ (b : List CodeStmt). MovesAll (given_of c.args.at.now) 0 0 (block_of b) c.enter_into.new.into S c.pass_block.new.zone S') (c.as_slice.ensures ∙ ap (λ (x : Code). x.block) same) c.pass_block.ensures.moves;
       read = subst (λ (x : ZoneOperand). IsRangeOf c.pass_block.new.zone x c.range_normed.result) (c.zone_operand.ensures ∙ ap (λ (x : Code). zone_operand x.result) same) c.range_normed.ensures;
       fits = c.requires.fits item code proc;
       begun = refl;
     } in
-    run_under program n item code (given_of c.args.at.now) c.args.at.now.input.now c.enter-zone.result c.pass_block.new.zone c.range_normed.result S S' source e calls run (c.requires.input item code proc) upper under
+    run_under program n item code (given_of c.args.at.now) c.args.at.now.input.now c.enter_into.new.into c.pass_block.new.zone c.range_normed.result S S' source e calls run (c.requires.input item code proc) upper under
 
 pub returns-clause-cost : goal.returns-clause-cost
 returns-clause-cost g c =
@@ -269,15 +269,15 @@ returns-clause-cost g c =
     let S = (lists c.args.keeps.now c.args.inputs.now c.args.unproved.now false c.args.steps.now) in
     let S' = (lists c.pass_block.new.keeps c.pass_block.new.inputs c.pass_block.new.unproved c.pass_block.new.mark.raised c.pass_block.new.steps) in
     let same : c.code-code.result.now ≡ code = some_same (sym c.code-code.ensures.kept ∙ proc.code_is) in
-    let run : Run program item code (given_of c.args.at.now) c.args.at.now.input.now c.enter-zone.result c.pass_block.new.zone c.range_normed.result S S' = record {
+    let run : Run program item code (given_of c.args.at.now) c.args.at.now.input.now c.enter_into.new.into c.pass_block.new.zone c.range_normed.result S S' = record {
       facts = facts_of program n item code c.program-program.ensures.resolution proc;
-      entered = c.enter-zone.ensures item code proc.place proc.code_is;
-      moves = subst (λ (b : List CodeStmt). MovesAll (given_of c.args.at.now) 0 0 (block_of b) c.enter-zone.result S c.pass_block.new.zone S') (c.as_slice.ensures ∙ ap (λ (x : Code). x.block) same) c.pass_block.ensures.moves;
+      entered = c.enter_into.ensures item code proc.place proc.code_is;
+      moves = subst (λ (b : List CodeStmt). MovesAll (given_of c.args.at.now) 0 0 (block_of b) c.enter_into.new.into S c.pass_block.new.zone S') (c.as_slice.ensures ∙ ap (λ (x : Code). x.block) same) c.pass_block.ensures.moves;
       read = subst (λ (x : ZoneOperand). IsRangeOf c.pass_block.new.zone x c.range_normed.result) (c.zone_operand.ensures ∙ ap (λ (x : Code). zone_operand x.result) same) c.range_normed.ensures;
       fits = c.requires.fits item code proc;
       begun = refl;
     } in
-    run_paid program item code (given_of c.args.at.now) c.args.at.now.input.now c.enter-zone.result c.pass_block.new.zone c.range_normed.result S S' run
+    run_paid program item code (given_of c.args.at.now) c.args.at.now.input.now c.enter_into.new.into c.pass_block.new.zone c.range_normed.result S S' run
 
 pub returns-clause-steps_rise : goal.returns-clause-steps_rise
 returns-clause-steps_rise g c =
@@ -290,15 +290,15 @@ returns-clause-steps_rise g c =
     let S = (lists c.args.keeps.now c.args.inputs.now c.args.unproved.now false c.args.steps.now) in
     let S' = (lists c.pass_block.new.keeps c.pass_block.new.inputs c.pass_block.new.unproved c.pass_block.new.mark.raised c.pass_block.new.steps) in
     let same : c.code-code.result.now ≡ code = some_same (sym c.code-code.ensures.kept ∙ proc.code_is) in
-    let run : Run program item code (given_of c.args.at.now) c.args.at.now.input.now c.enter-zone.result c.pass_block.new.zone c.range_normed.result S S' = record {
+    let run : Run program item code (given_of c.args.at.now) c.args.at.now.input.now c.enter_into.new.into c.pass_block.new.zone c.range_normed.result S S' = record {
       facts = facts_of program n item code c.program-program.ensures.resolution proc;
-      entered = c.enter-zone.ensures item code proc.place proc.code_is;
-      moves = subst (λ (b : List CodeStmt). MovesAll (given_of c.args.at.now) 0 0 (block_of b) c.enter-zone.result S c.pass_block.new.zone S') (c.as_slice.ensures ∙ ap (λ (x : Code). x.block) same) c.pass_block.ensures.moves;
+      entered = c.enter_into.ensures item code proc.place proc.code_is;
+      moves = subst (λ (b : List CodeStmt). MovesAll (given_of c.args.at.now) 0 0 (block_of b) c.enter_into.new.into S c.pass_block.new.zone S') (c.as_slice.ensures ∙ ap (λ (x : Code). x.block) same) c.pass_block.ensures.moves;
       read = subst (λ (x : ZoneOperand). IsRangeOf c.pass_block.new.zone x c.range_normed.result) (c.zone_operand.ensures ∙ ap (λ (x : Code). zone_operand x.result) same) c.range_normed.ensures;
       fits = c.requires.fits item code proc;
       begun = refl;
     } in
-    (run_counted program item code (given_of c.args.at.now) c.args.at.now.input.now c.enter-zone.result c.pass_block.new.zone c.range_normed.result S S' run).more
+    (run_counted program item code (given_of c.args.at.now) c.args.at.now.input.now c.enter_into.new.into c.pass_block.new.zone c.range_normed.result S S' run).more
 
 pub returns-clause-counted : goal.returns-clause-counted
 returns-clause-counted g c still =
@@ -311,12 +311,12 @@ returns-clause-counted g c still =
     let S = (lists c.args.keeps.now c.args.inputs.now c.args.unproved.now false c.args.steps.now) in
     let S' = (lists c.pass_block.new.keeps c.pass_block.new.inputs c.pass_block.new.unproved c.pass_block.new.mark.raised c.pass_block.new.steps) in
     let same : c.code-code.result.now ≡ code = some_same (sym c.code-code.ensures.kept ∙ proc.code_is) in
-    let run : Run program item code (given_of c.args.at.now) c.args.at.now.input.now c.enter-zone.result c.pass_block.new.zone c.range_normed.result S S' = record {
+    let run : Run program item code (given_of c.args.at.now) c.args.at.now.input.now c.enter_into.new.into c.pass_block.new.zone c.range_normed.result S S' = record {
       facts = facts_of program n item code c.program-program.ensures.resolution proc;
-      entered = c.enter-zone.ensures item code proc.place proc.code_is;
-      moves = subst (λ (b : List CodeStmt). MovesAll (given_of c.args.at.now) 0 0 (block_of b) c.enter-zone.result S c.pass_block.new.zone S') (c.as_slice.ensures ∙ ap (λ (x : Code). x.block) same) c.pass_block.ensures.moves;
+      entered = c.enter_into.ensures item code proc.place proc.code_is;
+      moves = subst (λ (b : List CodeStmt). MovesAll (given_of c.args.at.now) 0 0 (block_of b) c.enter_into.new.into S c.pass_block.new.zone S') (c.as_slice.ensures ∙ ap (λ (x : Code). x.block) same) c.pass_block.ensures.moves;
       read = subst (λ (x : ZoneOperand). IsRangeOf c.pass_block.new.zone x c.range_normed.result) (c.zone_operand.ensures ∙ ap (λ (x : Code). zone_operand x.result) same) c.range_normed.ensures;
       fits = c.requires.fits item code proc;
       begun = refl;
     } in
-    (run_counted program item code (given_of c.args.at.now) c.args.at.now.input.now c.enter-zone.result c.pass_block.new.zone c.range_normed.result S S' run).still still
+    (run_counted program item code (given_of c.args.at.now) c.args.at.now.input.now c.enter_into.new.into c.pass_block.new.zone c.range_normed.result S S' run).still still

@@ -14,6 +14,7 @@ loop-j-preserved c =
     record {
       vars = change.vars ∙ was.vars;
       not_bottom = false_along _ _ (sym change.bottom) was.not_bottom;
+      left = λ k h hk. change.others c.args.i k (omega arith) (omega arith) (inr (λ e. omega arith)) ∙ was.left k (omega arith) hk;
       row = below_more _ _ (λ k h. change.others c.args.i k (omega arith) (omega arith) (inr (λ e. omega arith)) ∙ was.row k h) (change.changed ∙ fits ∙ c.bound_between-bound.ensures.value);
       others = λ p q hp hq off. change.others p q (omega arith) (omega arith) (inl off) ∙ was.others p q hp hq off;
       marks = λ p. change.marks p ∙ was.marks p;

@@ -9,8 +9,7 @@ pub returns : goal.returns
 returns c =
     let fits : FitsSigned w128 c.difference_in_reach.result = search rules in
     record {
-      inside = λ h. arg_bound_is c.args.before.now c.args.args.now c.args.i c.args.j c.argument.result c.argument-2.result c.difference_in_reach.result _ c.requires.normal c.requires.operands c.requires.i h
+      value = arg_bound_is c.args.before.now c.args.args.now c.args.i c.args.j c.argument.result c.argument-2.result c.difference_in_reach.result _ c.requires.normal c.requires.operands c.requires.i c.requires.j
           c.difference_in_reach.ensures.value c.difference_in_reach.ensures.left c.difference_in_reach.ensures.right c.argument.ensures c.argument-2.ensures (omega (arith, ints));
-      outside = λ h. absurd (omega arith);
       reach = reach_as c.difference_in_reach.result _ c.difference_in_reach.ensures.reach (omega (arith, ints));
     }

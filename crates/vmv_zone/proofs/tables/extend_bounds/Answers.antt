@@ -1,7 +1,7 @@
-use Rattle.std.proofs.Common.{arith, rules, refl, FitsSigned}
+use Rattle.std.proofs.Common.{arith, rules, FitsSigned}
 use Rattle.std.specs.Int.{w128}
 use Rattle.std.proofs.lemmas.Int.{to_z-of_z}
-use Rattle.vmv_zone.proofs.Lines.{line_none, line_more, line_topped, extended_row, extended_column, extended_done}
+use Rattle.vmv_zone.proofs.Lines.{line_none, line_more, extended_row, extended_column, extended_done}
 use Rattle.vmv_zone.proofs.tables.extend_bounds.Goals as goal
 
 pub loop-k-init : goal.loop-k-init

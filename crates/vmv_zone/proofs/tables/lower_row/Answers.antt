@@ -1,4 +1,4 @@
-use Rattle.std.proofs.Common.{arith, rules, ◌≤◌, ◌*◌, ◌+◌, FitsSigned}
+use Rattle.std.proofs.Common.{arith, rules, inr, ◌≤◌, ◌*◌, ◌+◌, FitsSigned}
 use Rattle.std.specs.Int.{w128}
 use Rattle.std.proofs.lemmas.Int.{ints, clamps, to_z-of_z}
 use Rattle.vmv_zone.proofs.Rows.{row_none, row_more}
@@ -25,9 +25,12 @@ loop-q-preserved c =
     let l' = here.low in let h' = here.high in
     let wl = c.requires.wide.low in let wh = c.requires.wide.high in
     let value = c.min.ensures.value in
+    let low = c.requires.room c.loop-q.q hq in
+    let stays = c.loop-q.invariant.rest c.args.j c.loop-q.q (omega arith) (inr (omega arith)) in
+    let stays' = c.loop-q.invariant.rest c.args.p c.loop-q.q (omega arith) (inr (omega arith)) in
     let fits : FitsSigned w128 c.args.through = c.ranges.through in
     let fits' : FitsSigned w128 c.min.result = search rules in
-    simp to_z-of_z (row_more _ _ _ _ _ c.args.through _ _ c.requires.few c.requires.p hq c.requires.reach (c.requires.room c.loop-q.q hq) (simp to_z-of_z at c.loop-q.invariant) (omega (arith, ints, clamps)))
+    simp to_z-of_z (row_more _ _ _ _ _ c.args.through _ _ c.requires.few c.requires.p hq c.requires.reach (simp to_z-of_z at c.loop-q.invariant) (omega (arith, ints, clamps)) (omega (arith, ints, clamps)))
 
 pub returns : goal.returns
 returns c =

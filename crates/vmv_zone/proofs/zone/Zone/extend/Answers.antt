@@ -1,8 +1,8 @@
 use Rattle.std.proofs.Common.{arith, rules, refl}
 use Rattle.std.proofs.lemmas.Int.{ints}
 use Rattle.vmv_zone.proofs.Closing.{extended_under}
-use Rattle.vmv_zone.proofs.Confining.{extended_confines, confines_bottom}
-use Rattle.vmv_zone.proofs.Extending.{extends_of, extends_bottom}
+use Rattle.vmv_zone.proofs.Confining.{extended_confines}
+use Rattle.vmv_zone.proofs.Extending.{extends_of}
 use Rattle.vmv_zone.proofs.zone.Zone.extend.Goals as goal
 
 pub invariant_of-self : goal.invariant_of-self
@@ -16,12 +16,6 @@ invariant_of-self c = record {
   variables = λ i marked. let h = c.args.self.now.variables i marked in (h.0, omega (arith, h.1));
   emptied = λ t. absurd (search rules);
 }
-
-pub returns-then-self-clause-confines : goal.returns-then-self-clause-confines
-returns-then-self-clause-confines c = confines_bottom _ _ _ _ (omega (arith, c.empty.ensures.vars)) (search rules) (search rules)
-
-pub returns-then-self-clause-extends : goal.returns-then-self-clause-extends
-returns-then-self-clause-extends c = extends_bottom _ _ (omega (arith, c.empty.ensures.vars)) (search rules) (search rules)
 
 pub returns-clause-confines : goal.returns-clause-confines
 returns-clause-confines c = extended_confines c.args.self.now _ refl (search rules) (search rules) refl c.extend_bounds.ensures

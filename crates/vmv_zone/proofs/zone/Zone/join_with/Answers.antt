@@ -1,6 +1,5 @@
-use Rattle.std.proofs.Common.{arith, rules, refl, sym}
+use Rattle.std.proofs.Common.{rules, refl}
 use Rattle.vmv_zone.proofs.Joining.{AreRaised, raised_reach, raised_top, raised_outside, joined_of, joined_normal, join_left_bottom, join_right_bottom}
-use Rattle.vmv_zone.specs.declared.zone.Zone.{Zone}
 use Rattle.vmv_zone.specs.Bounds.{AreUnderTop, AreZeroOutside}
 use Rattle.vmv_zone.proofs.zone.Zone.join_with.Goals as goal
 

@@ -2,7 +2,7 @@ use Rattle.std.proofs.Common.{arith, ap, ◌∙◌}
 use Rattle.vmv_tree.specs.declared.tree.Program.{Program}
 use Rattle.vmv_zone.specs.Zone.{vars_of}
 use Rattle.vmv_step.proofs.Entering.{counted, enough, entered_is}
-use Rattle.vmv_step.proofs.entry.enter.Goals as goal
+use Rattle.vmv_step.proofs.entry.enter_into.Goals as goal
 
 pub overflow_cast-declared : goal.overflow_cast-declared
 overflow_cast-declared c =
@@ -11,14 +11,14 @@ overflow_cast-declared c =
     let room = enough s c.args.proc.0 c.code-code.result.now c.declared_of-declared.result (vars_of c.args.input.now) c.program.ensures.resolution c.code-code.ensures.resolved c.requires.proc count in
     let few = room.0 in let more = room.1 in omega arith
 
-pub entered-requires-clause-few : goal.entered-requires-clause-few
-entered-requires-clause-few c =
+pub start-requires-clause-few : goal.start-requires-clause-few
+start-requires-clause-few c =
     let s = c.args.snapshot.now in
     let count = counted s c.args.proc.0 c.as_slice.result.now c.declared_of-declared.result (vars_of c.args.input.now) (c.as_slice.ensures ∙ ap (λ (p : Program). p.items) c.program.ensures.program) c.declared_of-declared.ensures c.requires.input in
     (enough s c.args.proc.0 c.code-code.result.now c.declared_of-declared.result (vars_of c.args.input.now) c.program.ensures.resolution c.code-code.ensures.resolved c.requires.proc count).0
 
-pub entered-requires-clause-room : goal.entered-requires-clause-room
-entered-requires-clause-room c =
+pub start-requires-clause-room : goal.start-requires-clause-room
+start-requires-clause-room c =
     let s = c.args.snapshot.now in
     let count = counted s c.args.proc.0 c.as_slice.result.now c.declared_of-declared.result (vars_of c.args.input.now) (c.as_slice.ensures ∙ ap (λ (p : Program). p.items) c.program.ensures.program) c.declared_of-declared.ensures c.requires.input in
     (enough s c.args.proc.0 c.code-code.result.now c.declared_of-declared.result (vars_of c.args.input.now) c.program.ensures.resolution c.code-code.ensures.resolved c.requires.proc count).1
@@ -27,4 +27,4 @@ pub returns : goal.returns
 returns c item code at there =
     let s = c.args.snapshot.now in
     let count = counted s c.args.proc.0 c.as_slice.result.now c.declared_of-declared.result (vars_of c.args.input.now) (c.as_slice.ensures ∙ ap (λ (p : Program). p.items) c.program.ensures.program) c.declared_of-declared.ensures c.requires.input in
-    entered_is s c.args.proc.0 c.code-code.result.now code item c.declared_of-declared.result (vars_of c.args.input.now) c.args.input.now c.entered.result count c.code-code.ensures.kept at there c.entered.ensures
+    entered_is s c.args.proc.0 c.code-code.result.now code item c.declared_of-declared.result (vars_of c.args.input.now) c.args.input.now c.start.new.into count c.code-code.ensures.kept at there c.start.ensures

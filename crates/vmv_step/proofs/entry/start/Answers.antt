@@ -1,11 +1,11 @@
 use Rattle.std.proofs.Common.{◌∙◌, arith}
 use Rattle.vmv_step.proofs.Told.{up_of, clash}
-use Rattle.vmv_step.proofs.entry.entered.Goals as goal
+use Rattle.vmv_step.proofs.entry.start.Goals as goal
 
 pub returns : goal.returns
 returns c =
     let up' = up_of _ _ c.is_bottom.ensures c.if-is_bottom.false in
-    let vars = c.top-top.ensures.vars in
+    let vars = c.fill.ensures.vars in
     let bounds = c.set_bounds.ensures in
     let marks = c.set_marks.ensures in
     record {
