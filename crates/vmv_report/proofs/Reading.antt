@@ -1,5 +1,5 @@
 -- What tables that have been made tell of an entry.
-use Rattle.std.proofs.Common.{◌≡◌, ◌↔◌, ⊎_elim, ℕ, zero, suc, ◌+◌, Bool, true, false, Option, Some, None, IfSome, IfNone, Bor, List, [], ◌∷◌, map, slice_get, refl, sym, ap, subst, ◌∙◌, arith}
+use Rattle.std.proofs.Common.{◌≡◌, ◌↔◌, ⊎_elim, ℕ, zero, suc, ◌+◌, Bool, true, false, Option, Some, None, IfSome, IfNone, Bor, List, [], ◌∷◌, map, slice_get, sym, ap, subst, ◌∙◌, arith}
 use Rattle.std.specs.List.{AllZip, Contains}
 use Rattle.vmv_tree.specs.declared.ends.NameEnds.{NameEnds}
 use Rattle.vmv_tree.specs.declared.name.Name.{Name}

@@ -22,7 +22,7 @@ use Rattle.vmv_report.specs.declared.row.ReportRow.{ReportRow}
 use Rattle.vmv_report.specs.declared.proving.Judging.{Judging}
 use Rattle.vmv_report.specs.declared.proving.EntrySites.{EntrySites}
 use Rattle.vmv_report.specs.declared.told.Told.{Told}
-use Rattle.vmv_report.specs.Rows.{Place, place_of, IsPlace, IsBefore, Review, IsOfClass, AreRows, AreWitnesses, regression_count}
+use Rattle.vmv_report.specs.Rows.{Place, place_of, IsPlace, IsBefore, Review, IsOfClass, AreWitnesses, regression_count}
 
 -- the row's entry and the procedure of its site are procedures of the program
 pub record IsInside (program : Resolution) (row : ReportRow) : Type 0 where

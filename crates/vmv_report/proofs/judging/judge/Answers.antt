@@ -1,5 +1,4 @@
-use Rattle.std.proofs.Common.{List, sym, subst, ◌∙◌}
-use Rattle.vmv_tree.specs.declared.ends.NameEnds.{NameEnds}
+use Rattle.std.proofs.Common.{sym, subst, ◌∙◌}
 use Rattle.vmv_snapshot.specs.Resolution.{Resolution}
 use Rattle.vmv_demands.specs.Ends.{AreEnds}
 use Rattle.vmv_report.proofs.judging.judge.Goals as goal

@@ -1,4 +1,4 @@
-use Rattle.std.proofs.Common.{sym, subst}
+use Rattle.std.proofs.Common.{subst}
 use Rattle.vmv_assumption.specs.Assumed.{Assumed}
 use Rattle.vmv_report.specs.Work.{review_of, AreUnproved}
 use Rattle.vmv_report.proofs.Listing.{sites_of_none}
