@@ -1,5 +1,5 @@
 -- What the calls that look for failures answer.
-use Rattle.std.proofs.Common.{◌∙◌, ◌≡◌, ◌⊎◌, ◌↔◌, inl, inr, ⊎_elim, ℤ, pos, ◌*ℤ◌, ◌<ℤ◌, Bool, true, false, not, ◌||◌, IsTrue, IsFalse, FitsSigned, arith, rules, refl, sym, subst}
+use Rattle.std.proofs.Common.{◌∙◌, ◌≡◌, ◌⊎◌, ◌↔◌, inl, inr, ⊎_elim, ℤ, pos, ◌*ℤ◌, ◌<ℤ◌, Bool, true, false, ◌||◌, IsTrue, IsFalse, FitsSigned, arith, rules, refl, sym, subst}
 use Rattle.std.specs.Prelude.{int_lt}
 use Rattle.std.specs.Int.{w64}
 use Rattle.std.proofs.lemmas.Int.{ints}

@@ -1,7 +1,7 @@
 use Rattle.std.proofs.Common.{◌≡◌, ◌+◌, ◌-◌, ◌<◌, Some, List, length, map, slice_get, slice_set, refl, sym, ap, subst, arith, ◌∙◌}
 use Rattle.vmv_snapshot.specs.declared.code.CodeStmt.{CodeStmt}
 use Rattle.vmv_snapshot.specs.declared.code.CodeOperand.{CodeOperand}
-use Rattle.vmv_snapshot.specs.Code.{help, branch, Stmt}
+use Rattle.vmv_snapshot.specs.Code.{help, Stmt}
 use Rattle.vmv_cert.specs.Sizes.{loops, block_loops}
 use Rattle.vmv_snapshot.specs.View.{stmt_of, block_of}
 use Rattle.vmv_zone.specs.declared.zone.Zone.{Zone}
