@@ -12,7 +12,7 @@ use Rattle.vmv_keeper.specs.declared.project.Waiting.{Waiting}
 use Rattle.vmv_keeper.specs.declared.project.Submitted.{Submitted}
 use Rattle.vmv_keeper.specs.declared.reply.PendingRow.{PendingRow}
 use Rattle.vmv_keeper.specs.declared.reply.Reply.{Reply}
-use Rattle.vmv_keeper.specs.declared.reply.Reply.TheVariants.{Base, Pending, NotFound}
+use Rattle.vmv_keeper.specs.declared.reply.Reply.TheVariants.{Base, History, Pending, NotFound}
 use Rattle.vmv_keeper.specs.declared.judge.Compared.{Compared}
 use Rattle.vmv_keeper.specs.declared.act.Query.{Query}
 use Rattle.vmv_keeper.specs.Tables.{Tables, is_member, is_submission, root_after, root_number, waiting_as, project_named, held_of, bench_of, held_in, submitted_of, submission_in, text_in}
@@ -22,7 +22,8 @@ use Rattle.vmv_keeper.specs.Changes.{waiting_text}
 use Rattle.vmv_keeper.proofs.FormedReads.{IsProject-found}
 use Rattle.vmv_keeper.proofs.ListChanges.{length_map-same}
 use Rattle.vmv_desk_rules.specs.Causes.{Meaning, base_text, root_text}
-use Rattle.vmv_desk_rules.specs.Step.{report_of, told_of, answer_on}
+use Rattle.vmv_keeper.specs.declared.act.Query.TheVariants.{History as HistoryOf}
+use Rattle.vmv_desk_rules.specs.Step.{report_of, told_of, answer_on, asked_owner, asked_name}
 use Rattle.vmv_desk.specs.AtHand.{Agrees, OfHeld, is_queued, has_member}
 use Rattle.vmv_desk.specs.Asked.{row_of, row_in, put_before, rows_by, rows_in, put_all}
 use Rattle.vmv_desk.proofs.HeldLemmas.{OfHeld_all, queued_same, find_bench}
@@ -39,6 +40,18 @@ not_reported told owner name held queue s C absent =
     OfHeld_all told owner name held (λ p. queue ≡ bench_of p → NotFound ≡ reported C s p) (λ p same queued.
     let none : is_some (waiting_as s p) ≡ false = sym (queued_same s p.pending) ∙ sym (ap (λ q. is_queued q s) queued) ∙ absent in
     sym (ap (λ b. cond b (report_of (root_number p) (C (root_text p) (waiting_text s p))) NotFound) none))
+
+not_given_some : (s : ℕ) (p : Project) (found : Option Waiting) → None ≡ option_map submitted_of found → is_some found ≡ false
+not_given_some s p None e = refl
+not_given_some s p (Some w) e = absurd (cc e)
+
+-- a submission that isn't given isn't reported on
+pub not_given : (told : Option Tables) (owner name : List ℕ) (held : Held) (queue : Bench) (s : ℕ) (C : List ℕ → List ℕ → Compared) → IsAsIn (submission_in owner name s) told None
+    → OfHeld told owner name held (λ p. queue ≡ bench_of p → NotFound ≡ reported C s p)
+not_given None owner name held queue s C given = tt
+not_given (Some tables) owner name held queue s C given = λ p named same queued.
+    let none = not_given_some s p (waiting_as s p) (given ∙ ap (option_and_then (λ q. option_map submitted_of (waiting_as s q))) named) in
+    sym (ap (λ b. cond b (report_of (root_number p) (C (root_text p) (waiting_text s p))) NotFound) none)
 
 given_some : (submitted : Submitted) (found : Option Waiting) → Some submitted ≡ option_map submitted_of found → is_some found ≡ true
 given_some submitted None e = absurd (cc e)
@@ -230,3 +243,10 @@ pub OfHeld_queued : (told : Option Tables) (owner name : List ℕ) (held : Held)
     → OfHeld told owner name held P → OfHeld told owner name held (λ p. queue ≡ bench_of p → P p)
 OfHeld_queued None owner name held queue P all = tt
 OfHeld_queued (Some tables) owner name held queue P all = λ p named same queued. all p named same
+
+-- the versions that are told are the project's
+pub history_told : (told : Option Tables) (held : Held) (queue : Bench) (M : Meaning) (query : Query) (owner name : List ℕ) → query ≡ HistoryOf owner name
+    → OfHeld told (asked_owner query) (asked_name query) held (λ p. queue ≡ bench_of p → History held.versions ≡ told_of M query p)
+history_told told held queue M query owner name is =
+    OfHeld_all told (asked_owner query) (asked_name query) held (λ p. queue ≡ bench_of p → History held.versions ≡ told_of M query p) (λ p same queued.
+    ap (λ (h : Held). History h.versions) same ∙ sym (ap (λ q. told_of M q p) is))

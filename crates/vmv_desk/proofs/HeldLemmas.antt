@@ -1,5 +1,5 @@
 -- What comes of an act, by its project's rows at hand.
-use Rattle.std.proofs.Common.{◌≡◌, ◌==◌, ◌+◌, ◌||◌, ℕ, Bool, true, false, cond, not, nat_le, nat_lt, List, [], ◌∷◌, ◌++◌, map, length, find, Option, Some, None, is_some, is_none, IsSome, IfOk, Result, Ok, Err, refl, ap, sym, ◌∙◌, subst, length-append}
+use Rattle.std.proofs.Common.{◌⊎◌, inl, inr, ◌≡◌, ◌==◌, ◌+◌, ◌||◌, ℕ, Bool, true, false, cond, not, nat_le, nat_lt, List, [], ◌∷◌, ◌++◌, map, length, find, Option, Some, None, is_some, is_none, IsSome, IfOk, Result, Ok, Err, refl, ap, sym, ◌∙◌, subst, length-append}
 use Rattle.std.specs.Option.{option_map}
 use Rattle.std.specs.List.{list_any}
 use Rattle.vmv_keeper.specs.declared.project.Project.{Project}
@@ -10,6 +10,7 @@ use Rattle.vmv_keeper.specs.declared.project.Version.{Version}
 use Rattle.vmv_keeper.specs.declared.act.Act.{Act}
 use Rattle.vmv_keeper.specs.declared.act.Act.TheVariants.{OpenProject, AddMember, Submit, Withdraw, Accept, Waive}
 use Rattle.vmv_keeper.specs.declared.reply.Reply.{Reply}
+use Rattle.vmv_keeper.specs.declared.judge.Inspected.{Inspected}
 use Rattle.vmv_keeper.specs.declared.reply.Reply.TheVariants.{Members, Accepted, Waived, NotFound, NotAllowed, Full}
 use Rattle.vmv_keeper.specs.Tables.{Tables, is_same, is_member, is_named, is_submission, waiting_as, project_named, held_of, bench_of, held_in}
 use Rattle.vmv_keeper.specs.Outside.{IsAsIn}
@@ -19,7 +20,7 @@ use Rattle.vmv_keeper.proofs.ListChanges.{length_map-same}
 use Rattle.vmv_desk_rules.specs.declared.outcome.Effect.{Effect}
 use Rattle.vmv_desk_rules.specs.declared.outcome.Outcome.{Outcome}
 use Rattle.vmv_desk_rules.specs.declared.outcome.Outcome.TheVariants.{Done, NotDone}
-use Rattle.vmv_desk_rules.specs.Causes.{Meaning, cause_if, tried, effect_on, row_causes, judge_causes, outcome_on}
+use Rattle.vmv_desk_rules.specs.Causes.{Meaning, cause_if, if_refused, tried, effect_on, row_causes, judge_causes, outcome_on}
 use Rattle.vmv_desk.specs.AtHand.{Agrees, OfHeld, Waits, causes_at, reply_at, against_at, effect_at, first_cause, has_member, is_queued}
 
 -- what holds of the project that is at hand
@@ -143,6 +144,43 @@ rows_of caller act held queue p same queued =
 
 member_of : (held : Held) (caller : List ℕ) (p : Project) → held ≡ held_of p → has_member held caller ≡ true → is_member p caller ≡ true
 member_of held caller p same member = sym (ap (λ h. has_member h caller) same) ∙ member
+
+one_cause : (cause : Option Reply) → cause ≡ first_cause (cause ∷ [])
+one_cause None = refl
+one_cause (Some r) = refl
+
+-- a text that is submitted
+pub submit_found : (told : Option Tables) (at called : List ℕ) (held : Held) (M : Meaning) (act : Act) (owner project text : List ℕ) (said : Inspected) (cause : Option Reply)
+    → act ≡ Submit owner project text → M.inspected text ≡ said → cause ≡ if_refused said
+    → OfHeld told at called held (λ p. Waits act p → cause ≡ first_cause (judge_causes M act p))
+submit_found told at called held M act owner project text said cause is e found =
+    OfHeld_all told at called held (λ p. Waits act p → cause ≡ first_cause (judge_causes M act p)) (λ p same waits.
+    found ∙ sym (ap if_refused e) ∙ one_cause (if_refused (M.inspected text)) ∙ sym (ap (λ a. first_cause (judge_causes M a p)) is))
+
+-- acts against which a judge finds nothing
+abbrev pub IsUnjudged : Act → Type 0
+IsUnjudged act =
+    ((name : List ℕ) × (text : List ℕ) × (act ≡ OpenProject name text))
+    ⊎ (((owner : List ℕ) × (project : List ℕ) × (member : List ℕ) × (act ≡ AddMember owner project member))
+    ⊎ ((owner : List ℕ) × (project : List ℕ) × (submission : ℕ) × (act ≡ Withdraw owner project submission)))
+
+no_cause : (M : Meaning) (act : Act) (p : Project) → IsUnjudged act → None ≡ first_cause (judge_causes M act p)
+no_cause M act p (inl (name, text, is)) = sym (ap (λ a. first_cause (judge_causes M a p)) is)
+no_cause M act p (inr (inl (owner, project, member, is))) = sym (ap (λ a. first_cause (judge_causes M a p)) is)
+no_cause M act p (inr (inr (owner, project, submission, is))) = sym (ap (λ a. first_cause (judge_causes M a p)) is)
+
+pub nothing_found : (told : Option Tables) (at called : List ℕ) (held : Held) (M : Meaning) (act : Act) → IsUnjudged act
+    → OfHeld told at called held (λ p. Waits act p → None ≡ first_cause (judge_causes M act p))
+nothing_found told at called held M act is =
+    OfHeld_all told at called held (λ p. Waits act p → None ≡ first_cause (judge_causes M act p)) (λ p same waits. no_cause M act p is)
+
+-- who isn't a member is told of no project
+pub no_member : (told : Option Tables) (owner name : List ℕ) (M : Meaning) (caller : List ℕ) (act : Act) (held : Held) (queue : Bench) (found : Outcome) → has_member held caller ≡ false
+    → found ≡ NotDone NotFound → OfHeld told owner name held (λ p. queue ≡ bench_of p → found ≡ outcome_on M caller act (Some p))
+no_member told owner name M caller act held queue found absent is =
+    OfHeld_all told owner name held (λ p. queue ≡ bench_of p → found ≡ outcome_on M caller act (Some p)) (λ p same queued.
+    let none : is_member p caller ≡ false = sym (ap (λ h. has_member h caller) same) ∙ absent in
+    is ∙ sym (ap (λ b. tried (cause_if (not b) NotFound ∷ (row_causes caller act p ++ judge_causes M act p)) (effect_on act p)) none))
 
 pub stopped_by_rows : (told : Option Tables) (owner name : List ℕ) (J : Meaning) (caller : List ℕ) (act : Act) (held : Held) (queue : Bench) (r : Reply)
     → has_member held caller ≡ true → Some r ≡ first_cause (causes_at caller act held queue)

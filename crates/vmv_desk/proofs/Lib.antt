@@ -6,3 +6,4 @@ pub mod TextsLemmas
 pub mod BenchesLemmas
 pub mod AskedLemmas
 pub mod HandledLemmas
+mod SaidLemmas

@@ -1,5 +1,5 @@
 -- The texts that a store gives are those of the project.
-use Rattle.std.proofs.Common.{◌≡◌, ◌==◌, ◌≤◌, ◌+◌, ℕ, Bool, true, false, cond, List, [], ◌∷◌, map, length, find, Option, Some, None, IsSome, IfOk, Result, Ok, Err, unwrap_or, refl, ap, ◌∙◌, subst, arith}
+use Rattle.std.proofs.Common.{◌≡◌, ◌==◌, ◌≤◌, ◌+◌, ℕ, Bool, true, false, cond, List, [], ◌∷◌, map, length, find, Option, Some, None, IsSome, IfOk, Result, Ok, Err, unwrap_or, refl, ap, sym, ◌∙◌, subst, arith}
 use Rattle.std.specs.Option.{option_map, option_and_then}
 use borrow.Author.Tests.{eq-eqb, ne_eqb}
 use Rattle.vmv_keeper.specs.declared.project.Project.{Project}
@@ -16,7 +16,7 @@ use Rattle.vmv_keeper.specs.Outside.{IsAsIn}
 use Rattle.vmv_keeper.specs.Formed.{IsHeld, AreNumbered, BeginOpened}
 use Rattle.vmv_keeper.specs.Changes.{waiting_text}
 use Rattle.vmv_keeper.proofs.ListChanges.{length_map-same}
-use Rattle.vmv_desk_rules.specs.Causes.{last_text, base_text, root_text, if_not_correct, if_vacuous}
+use Rattle.vmv_desk_rules.specs.Causes.{Meaning, last_text, base_text, root_text, if_not_correct, if_vacuous}
 use Rattle.vmv_desk_rules.proofs.RootLemmas.{root_text_at, begun_root}
 use Rattle.vmv_desk.specs.AtHand.{OfHeld, first_cause}
 
@@ -76,6 +76,10 @@ pub text_found : (tables : Tables) (owner name : List ℕ) (n : ℕ) (p : Projec
     → version_text n p ≡ Some text → found ≡ text_in owner name n tables → found ≡ Some text
 text_found tables owner name n p found text named is told = told ∙ ap (option_and_then (version_text n)) named ∙ is
 
+alone : (cause : Option Reply) → cause ≡ first_cause (cause ∷ [])
+alone None = refl
+alone (Some r) = refl
+
 pub accepting_found : {E : Type 0} (told then : Option Tables) (owner name : List ℕ) (held : Held) (s n : ℕ) (I : List ℕ → Inspected) (C : List ℕ → List ℕ → Compared)
     (submitted : Submitted) (root : List ℕ) (result : Result (Option Reply) E)
     → IsHeld owner held → n ≡ root_after 0 held.versions → IsAsIn (submission_in owner name s) told (Some submitted) → then ≡ told
@@ -108,3 +112,11 @@ pub no_base : (told : Option Tables) (owner name : List ℕ) (held : Held) (n : 
 no_base None owner name held n P good many read = tt
 no_base (Some tables) owner name held n P good many read = λ p named same.
     let here = text_found tables owner name n p None (base_text p) named (base_found owner held n p good many same) read in absurd (cc here)
+
+pub waiving_found : (told : Option Tables) (owner name : List ℕ) (held : Held) (s : ℕ) (M : Meaning) (submitted : Submitted) (said : Inspected) (cause : Option Reply)
+    → IsAsIn (submission_in owner name s) told (Some submitted) → M.inspected submitted.text ≡ said → cause ≡ if_vacuous said
+    → OfHeld told owner name held (λ p. IsSome (waiting_as s p) → cause ≡ first_cause (if_vacuous (M.inspected (waiting_text s p)) ∷ []))
+waiving_found None owner name held s M submitted said cause given e is = tt
+waiving_found (Some tables) owner name held s M submitted said cause given e is = λ p named same waits.
+    let text = submission_found tables owner name s p submitted named given in
+    is ∙ sym (ap if_vacuous e) ∙ alone (if_vacuous (M.inspected submitted.text)) ∙ ap (λ t. first_cause (if_vacuous (M.inspected t) ∷ [])) text

@@ -12,7 +12,6 @@ use Rattle.vmv_keeper.specs.Tables.{Tables, is_same, root_after, project_named, 
 use Rattle.vmv_keeper.specs.Outside.{OfTold}
 use Rattle.vmv_keeper.specs.Formed.{is_bench_of}
 use Rattle.vmv_keeper.specs.Changes.{changed}
-pub use Rattle.vmv_desk_rules.specs.Causes.{says}
 use Rattle.vmv_desk_rules.specs.Causes.{Meaning, cause_if}
 use Rattle.vmv_desk_rules.specs.Step.{Step}
 use Rattle.vmv_desk_rules.specs.declared.outcome.Effect.{Effect}

@@ -6,7 +6,8 @@ ghost use Rattle.vmv_keeper.specs.Tables.{project_named, bench_of};
 ghost use Rattle.vmv_keeper.specs.Outside.{Counts, IsAsIn, OfTold};
 ghost use Rattle.vmv_keeper.specs.Formed.{AreFormed, IsHeld};
 ghost use Rattle.vmv_desk_rules.specs.Step.{answer_on, answer, report_of, told_of, asked_owner, asked_name};
-ghost use Rattle.vmv_desk.specs.AtHand.{Agrees, OfHeld, says};
+ghost use Rattle.vmv_desk_rules.specs.Heard.{BySaid};
+ghost use Rattle.vmv_desk.specs.AtHand.{Agrees, OfHeld};
 ghost use Rattle.vmv_desk.specs.Asked.{row_in, rows_in};
 
 use crate::queue::Queue;
@@ -47,7 +48,7 @@ fn judged_report<J: Judge>(
     text: &Text,
 ) -> Result<Reply, KeepFault>
     ensures may { IfOk result (λ reply. IsTrue (is_report reply)) }
-    ensures reply { IfOk result (λ reply. reply ≡ report_of against (J.compared judge.now root.now text.now)) }
+    ensures reply { IfOk result (λ reply. BySaid (J.inspected judge.now) (J.compared judge.now) (λ M. reply ≡ report_of against (M.compared root.now text.now))) }
     ensures memory { IfErr result (λ fault. fault ≡ KeepFault.Memory) }
 {
     let said = judge.compare(alloc, root, text)?;
@@ -66,7 +67,7 @@ fn report_on<K: Keeper, J: Judge>(
     held: &Held,
 ) -> Result<Reply, KeepFault>
     requires { IsHeld owner.now held.now }
-    ensures told { IfOk result (λ reply. OfHeld (K.told keeper.old) owner.now project.now held.now (λ p. queue.now ≡ bench_of p → reply ≡ told_of (says (J.inspected judge.now) (J.compared judge.now)) (Query.ReportOf owner.now project.now submission) p)) }
+    ensures told { IfOk result (λ reply. BySaid (J.inspected judge.now) (J.compared judge.now) (λ M. OfHeld (K.told keeper.old) owner.now project.now held.now (λ p. queue.now ≡ bench_of p → reply ≡ told_of M (Query.ReportOf owner.now project.now submission) p))) }
     ensures kept { K.told keeper.new ≡ K.told keeper.old }
     ensures counted { Counts result (K.fault_count keeper.old) (K.fault_count keeper.new) }
     ensures may { IfOk result (λ reply. IsTrue (is_report reply)) }
@@ -178,7 +179,7 @@ fn told_of<K: Keeper, J: Judge>(
     held: Held,
 ) -> Result<Reply, KeepFault>
     requires { IsHeld (asked_owner query.now) held }
-    ensures told { IfOk result (λ reply. OfTold (K.told keeper.old) AreFormed → OfHeld (K.told keeper.old) (asked_owner query.now) (asked_name query.now) held (λ p. queue.now ≡ bench_of p → reply ≡ told_of (says (J.inspected judge.now) (J.compared judge.now)) query.now p)) }
+    ensures told { IfOk result (λ reply. BySaid (J.inspected judge.now) (J.compared judge.now) (λ M. OfTold (K.told keeper.old) AreFormed → OfHeld (K.told keeper.old) (asked_owner query.now) (asked_name query.now) held (λ p. queue.now ≡ bench_of p → reply ≡ told_of M query.now p))) }
     ensures kept { K.told keeper.new ≡ K.told keeper.old }
     ensures counted { Counts result (K.fault_count keeper.old) (K.fault_count keeper.new) }
     ensures may { IfOk result (λ reply. IsTrue (may_answer query.now reply)) }
@@ -220,7 +221,7 @@ fn ask_of<K: Keeper, J: Judge>(
     requires agrees { Agrees (K.told keeper.old) queues.now }
     requires owner { asked_owner query.now ≡ owner.now }
     requires name { asked_name query.now ≡ name.now }
-    ensures told { IfOk result (λ reply. OfTold (K.told keeper.old) AreFormed → IsAsIn (λ tables. answer_on (says (J.inspected judge.now) (J.compared judge.now)) caller.now query.now (project_named tables owner.now name.now)) (K.told keeper.old) reply) }
+    ensures told { IfOk result (λ reply. BySaid (J.inspected judge.now) (J.compared judge.now) (λ M. OfTold (K.told keeper.old) AreFormed → IsAsIn (λ tables. answer_on M caller.now query.now (project_named tables owner.now name.now)) (K.told keeper.old) reply)) }
     ensures kept { K.told keeper.new ≡ K.told keeper.old }
     ensures counted { Counts result (K.fault_count keeper.old) (K.fault_count keeper.new) }
     ensures may { IfOk result (λ reply. IsTrue (may_answer query.now reply)) }
@@ -247,7 +248,7 @@ pub(crate) fn ask<K: Keeper, J: Judge>(
     judge: &J,
 ) -> Result<Reply, KeepFault>
     requires { Agrees (K.told keeper.old) queues.now }
-    ensures told { IfOk result (λ reply. OfTold (K.told keeper.old) AreFormed → IsAsIn (λ tables. answer (says (J.inspected judge.now) (J.compared judge.now)) tables caller.now query.now) (K.told keeper.old) reply) }
+    ensures told { IfOk result (λ reply. BySaid (J.inspected judge.now) (J.compared judge.now) (λ M. OfTold (K.told keeper.old) AreFormed → IsAsIn (λ tables. answer M tables caller.now query.now) (K.told keeper.old) reply)) }
     ensures kept { K.told keeper.new ≡ K.told keeper.old }
     ensures counted { Counts result (K.fault_count keeper.old) (K.fault_count keeper.new) }
     ensures may { IfOk result (λ reply. IsTrue (may_answer query.now reply)) }

@@ -4,7 +4,8 @@ ghost use Rattle.std.specs.Prelude.{◌≡◌, ◌⊎◌, IfOk, OnErr, IsTrue};
 ghost use Rattle.vmv_keeper.specs.Formed.{IsDone};
 ghost use Rattle.vmv_desk_rules.specs.Replies.{may_refuse, IsReplyTo};
 ghost use Rattle.vmv_keeper.specs.Outside.{Counts};
-ghost use Rattle.vmv_desk.specs.AtHand.{Agrees, IsStepped, IsKept, says};
+ghost use Rattle.vmv_desk_rules.specs.Heard.{BySaid};
+ghost use Rattle.vmv_desk.specs.AtHand.{Agrees, IsStepped, IsKept};
 
 use crate::committing::make;
 use crate::outcomes::outcome;
@@ -38,7 +39,7 @@ pub(crate) fn change<K: Keeper, J: Judge>(
 ) -> Result<Reply, KeepFault>
     requires { Agrees (K.told keeper.old) queues.old.items }
     ensures agrees { Agrees (K.told keeper.new) queues.new.items }
-    ensures stepped { IfOk result (IsStepped (says (J.inspected judge.now) (J.compared judge.now)) (K.told keeper.old) (Command.Change caller.now id.now act.now) (K.told keeper.new)) }
+    ensures stepped { IfOk result (λ reply. BySaid (J.inspected judge.now) (J.compared judge.now) (λ M. IsStepped M (K.told keeper.old) (Command.Change caller.now id.now act.now) (K.told keeper.new) reply)) }
     ensures refused { OnErr result (K.told keeper.new ≡ K.told keeper.old) }
     ensures counted { Counts result (K.fault_count keeper.old) (K.fault_count keeper.new) }
     ensures may { IfOk result (IsReplyTo (Command.Change caller.now id.now act.now)) }

@@ -3,12 +3,11 @@ ghost use Rattle.vmv_edge.specs.Outside.{Rose};
 ghost use Rattle.vmv_keeper.specs.Outside.{Counts, OfTold};
 ghost use Rattle.vmv_keeper.specs.Formed.{AreFormed};
 ghost use Rattle.vmv_keeper.specs.Tables.{no_rows};
-ghost use Rattle.vmv_desk_rules.specs.Step.{Handled, IsFault};
+ghost use Rattle.vmv_desk_rules.specs.Step.{IsFault};
+ghost use Rattle.vmv_desk_rules.specs.Heard.{BySaid, HandledBy, WellBy, RanToBy};
 ghost use Rattle.vmv_desk_rules.specs.Replies.{IsReplyTo};
-ghost use Rattle.vmv_desk_rules.specs.Well.{Well};
-ghost use Rattle.vmv_desk_rules.specs.Runs.{RanTo};
 ghost use Rattle.vmv_desk_rules.specs.Chain.{KeepsChains};
-ghost use Rattle.vmv_desk.specs.AtHand.{Agrees, IsStepped, says};
+ghost use Rattle.vmv_desk.specs.AtHand.{Agrees, IsStepped};
 
 use crate::asking::ask;
 use crate::changing::change;
@@ -80,7 +79,7 @@ fn answered<K: Keeper, J: Judge>(
 ) -> Result<Reply, KeepFault>
     requires { Agrees (K.told keeper.old) queues.old.items }
     ensures agrees { Agrees (K.told keeper.new) queues.new.items }
-    ensures stepped { IfOk result (λ reply. OfTold (K.told keeper.old) AreFormed → IsStepped (says (J.inspected judge.now) (J.compared judge.now)) (K.told keeper.old) command.now (K.told keeper.new) reply) }
+    ensures stepped { IfOk result (λ reply. BySaid (J.inspected judge.now) (J.compared judge.now) (λ M. OfTold (K.told keeper.old) AreFormed → IsStepped M (K.told keeper.old) command.now (K.told keeper.new) reply)) }
     ensures refused { OnErr result (K.told keeper.new ≡ K.told keeper.old) }
     ensures counted { Counts result (K.fault_count keeper.old) (K.fault_count keeper.new) }
     ensures may { IfOk result (IsReplyTo command.now) }
@@ -121,9 +120,9 @@ impl<K: Keeper> Desk<K> {
 
     /// Does what a caller asks for, or says why not.
     pub fn handle<J: Judge>(&mut self, alloc: Global, command: &Command, judge: &J) -> Reply
-        ensures handled { OfTold (K.told self.old) (λ tables. AreFormed tables → Handled (says (J.inspected judge.now) (J.compared judge.now)) tables command.now (K.told self.new) result) }
-        ensures well { OfTold (K.told self.old) (λ tables. Well (says (J.inspected judge.now) (J.compared judge.now)) tables → OfTold (K.told self.new) (Well (says (J.inspected judge.now) (J.compared judge.now)))) }
-        ensures chains { OfTold (K.told self.old) (λ tables. Well (says (J.inspected judge.now) (J.compared judge.now)) tables → OfTold (K.told self.new) (KeepsChains (J.keeps judge.now))) }
+        ensures handled { OfTold (K.told self.old) (λ tables. AreFormed tables → HandledBy (J.inspected judge.now) (J.compared judge.now) tables command.now (K.told self.new) result) }
+        ensures well { OfTold (K.told self.old) (λ tables. WellBy (J.inspected judge.now) (J.compared judge.now) tables → OfTold (K.told self.new) (WellBy (J.inspected judge.now) (J.compared judge.now))) }
+        ensures chains { OfTold (K.told self.old) (λ tables. WellBy (J.inspected judge.now) (J.compared judge.now) tables → OfTold (K.told self.new) (KeepsChains (J.keeps judge.now))) }
         ensures fault { result ≡ Reply.StoreFault → Rose (K.fault_count self.old) (K.fault_count self.new) }
         ensures counted { result ≢ Reply.StoreFault → K.fault_count self.new ≡ K.fault_count self.old }
         ensures untold { K.told self.old ≡ None → K.told self.new ≡ None }
@@ -140,8 +139,8 @@ impl<K: Keeper> Desk<K> {
         commands: &[Command],
         judge: &J,
     ) -> Result<Vec<Reply>, AllocError>
-        ensures ran { IfOk result (λ replies. OfTold (K.told self.old) (λ tables. Well (says (J.inspected judge.now) (J.compared judge.now)) tables → RanTo (says (J.inspected judge.now) (J.compared judge.now)) tables commands.now (K.told self.new) replies.items)) }
-        ensures begun { IfOk result (λ replies. K.told self.old ≡ Some no_rows → RanTo (says (J.inspected judge.now) (J.compared judge.now)) no_rows commands.now (K.told self.new) replies.items) }
+        ensures ran { IfOk result (λ replies. OfTold (K.told self.old) (λ tables. WellBy (J.inspected judge.now) (J.compared judge.now) tables → RanToBy (J.inspected judge.now) (J.compared judge.now) tables commands.now (K.told self.new) replies.items)) }
+        ensures begun { IfOk result (λ replies. K.told self.old ≡ Some no_rows → RanToBy (J.inspected judge.now) (J.compared judge.now) no_rows commands.now (K.told self.new) replies.items) }
         ensures refused { OnErr result (self.new ≡ self.old) }
     {
         let mut replies = Vec::with_capacity(alloc, commands.len())?;

@@ -7,7 +7,8 @@ ghost use Rattle.vmv_keeper.specs.Outside.{Counts};
 ghost use Rattle.vmv_keeper.specs.Formed.{IsHeld};
 ghost use Rattle.vmv_keeper.specs.Changes.{owner_of, name_of, waiting_text};
 ghost use Rattle.vmv_desk_rules.specs.Causes.{if_refused, if_vacuous, if_not_correct, root_text, judge_causes};
-ghost use Rattle.vmv_desk.specs.AtHand.{first_cause, OfHeld, says, Waits};
+ghost use Rattle.vmv_desk_rules.specs.Heard.{BySaid};
+ghost use Rattle.vmv_desk.specs.AtHand.{first_cause, OfHeld, Waits};
 
 use crate::row_causes::root_of;
 use std::alloc::Global;
@@ -66,7 +67,7 @@ fn compared_cause<J: Judge>(
     root: &Text,
     text: &Text,
 ) -> Result<Option<Reply>, KeepFault>
-    ensures cause { IfOk result (λ cause. cause ≡ first_cause (if_not_correct (J.compared judge.now root.now text.now) ∷ if_vacuous (J.inspected judge.now text.now) ∷ [])) }
+    ensures cause { IfOk result (λ cause. BySaid (J.inspected judge.now) (J.compared judge.now) (λ M. cause ≡ first_cause (if_not_correct (M.compared root.now text.now) ∷ if_vacuous (M.inspected text.now) ∷ []))) }
     ensures may { IfOk result (λ cause. IfSome cause (λ r. IsTrue (refuses_accepting r))) }
     ensures memory { IfErr result (λ fault. fault ≡ KeepFault.Memory) }
 {
@@ -87,7 +88,7 @@ fn accepting_cause<K: Keeper, J: Judge>(
     held: &Held,
 ) -> Result<Option<Reply>, KeepFault>
     requires { IsHeld owner.now held.now }
-    ensures told { IfOk result (λ cause. OfHeld (K.told keeper.old) owner.now project.now held.now (λ p. IsSome (waiting_as submission p) → cause ≡ first_cause (if_not_correct (J.compared judge.now (root_text p) (waiting_text submission p)) ∷ if_vacuous (J.inspected judge.now (waiting_text submission p)) ∷ []))) }
+    ensures told { IfOk result (λ cause. BySaid (J.inspected judge.now) (J.compared judge.now) (λ M. OfHeld (K.told keeper.old) owner.now project.now held.now (λ p. IsSome (waiting_as submission p) → cause ≡ first_cause (if_not_correct (M.compared (root_text p) (waiting_text submission p)) ∷ if_vacuous (M.inspected (waiting_text submission p)) ∷ [])))) }
     ensures kept { K.told keeper.new ≡ K.told keeper.old }
     ensures counted { Counts result (K.fault_count keeper.old) (K.fault_count keeper.new) }
     ensures may { IfOk result (λ cause. IfSome cause (λ r. IsTrue (refuses_accepting r))) }
@@ -111,7 +112,7 @@ fn waiving_cause<K: Keeper, J: Judge>(
     project: &Label,
     submission: u32,
 ) -> Result<Option<Reply>, KeepFault>
-    ensures told { IfOk result (λ cause. (held : _) → OfHeld (K.told keeper.old) owner.now project.now held (λ p. IsSome (waiting_as submission p) → cause ≡ first_cause (if_vacuous (J.inspected judge.now (waiting_text submission p)) ∷ []))) }
+    ensures told { IfOk result (λ cause. BySaid (J.inspected judge.now) (J.compared judge.now) (λ M. (held : _) → OfHeld (K.told keeper.old) owner.now project.now held (λ p. IsSome (waiting_as submission p) → cause ≡ first_cause (if_vacuous (M.inspected (waiting_text submission p)) ∷ [])))) }
     ensures kept { K.told keeper.new ≡ K.told keeper.old }
     ensures counted { Counts result (K.fault_count keeper.old) (K.fault_count keeper.new) }
     ensures may { IfOk result (λ cause. IfSome cause (λ r. IsTrue (refuses_waiving r))) }
@@ -131,7 +132,7 @@ pub(crate) fn judge_cause<K: Keeper, J: Judge>(
     held: &Held,
 ) -> Result<Option<Reply>, KeepFault>
     requires { (caller : _) → IsHeld (owner_of caller act.now) held.now }
-    ensures told { IfOk result (λ cause. (caller : _) → OfHeld (K.told keeper.old) (owner_of caller act.now) (name_of act.now) held.now (λ p. Waits act.now p → cause ≡ first_cause (judge_causes (says (J.inspected judge.now) (J.compared judge.now)) act.now p))) }
+    ensures told { IfOk result (λ cause. BySaid (J.inspected judge.now) (J.compared judge.now) (λ M. (caller : _) → OfHeld (K.told keeper.old) (owner_of caller act.now) (name_of act.now) held.now (λ p. Waits act.now p → cause ≡ first_cause (judge_causes M act.now p)))) }
     ensures kept { K.told keeper.new ≡ K.told keeper.old }
     ensures counted { Counts result (K.fault_count keeper.old) (K.fault_count keeper.new) }
     ensures may { IfOk result (λ cause. IfSome cause (λ r. IsTrue (may_refuse act.now r))) }

@@ -7,7 +7,8 @@ ghost use Rattle.vmv_keeper.specs.Outside.{Counts, IsAsIn};
 ghost use Rattle.vmv_keeper.specs.Changes.{owner_of, name_of};
 ghost use Rattle.vmv_desk_rules.specs.Causes.{outcome, outcome_of, outcome_on};
 ghost use Rattle.vmv_desk_rules.specs.Replies.{Belongs};
-ghost use Rattle.vmv_desk.specs.AtHand.{Agrees, IsOnProject, OfHeld, says};
+ghost use Rattle.vmv_desk_rules.specs.Heard.{BySaid};
+ghost use Rattle.vmv_desk.specs.AtHand.{Agrees, IsOnProject, OfHeld};
 
 use crate::judging::{judge_cause, refused, vacuous};
 use crate::queue::Queue;
@@ -29,7 +30,7 @@ fn opening<K: Keeper, J: Judge>(
     judge: &J,
 ) -> Result<Outcome, KeepFault>
     requires { Agrees (K.told keeper.old) queues.now }
-    ensures told { IfOk result (IsAsIn (λ tables. outcome_of (says (J.inspected judge.now) (J.compared judge.now)) tables caller.now (Act.OpenProject name.now text.now)) (K.told keeper.old)) }
+    ensures told { IfOk result (λ found. BySaid (J.inspected judge.now) (J.compared judge.now) (λ M. IsAsIn (λ tables. outcome_of M tables caller.now (Act.OpenProject name.now text.now)) (K.told keeper.old) found)) }
     ensures kept { K.told keeper.new ≡ K.told keeper.old }
     ensures counted { Counts result (K.fault_count keeper.old) (K.fault_count keeper.new) }
     ensures may { IfOk result (Belongs (Act.OpenProject name.now text.now)) }
@@ -79,7 +80,7 @@ fn acting_on_held<K: Keeper, J: Judge>(
 ) -> Result<Outcome, KeepFault>
     requires held { IsHeld (owner_of caller.now act.now) held.now }
     requires opens { IsOnProject act.now }
-    ensures told { IfOk result (λ found. OfHeld (K.told keeper.old) (owner_of caller.now act.now) (name_of act.now) held.now (λ p. queue.now ≡ bench_of p → found ≡ outcome_on (says (J.inspected judge.now) (J.compared judge.now)) caller.now act.now (Some p))) }
+    ensures told { IfOk result (λ found. BySaid (J.inspected judge.now) (J.compared judge.now) (λ M. OfHeld (K.told keeper.old) (owner_of caller.now act.now) (name_of act.now) held.now (λ p. queue.now ≡ bench_of p → found ≡ outcome_on M caller.now act.now (Some p)))) }
     ensures kept { K.told keeper.new ≡ K.told keeper.old }
     ensures counted { Counts result (K.fault_count keeper.old) (K.fault_count keeper.new) }
     ensures may { IfOk result (Belongs act.now) }
@@ -113,7 +114,7 @@ fn acting<K: Keeper, J: Judge>(
     requires owner { owner_of caller.now act.now ≡ owner.now }
     requires name { name_of act.now ≡ name.now }
     requires opens { IsOnProject act.now }
-    ensures told { IfOk result (IsAsIn (λ tables. outcome_on (says (J.inspected judge.now) (J.compared judge.now)) caller.now act.now (project_named tables owner.now name.now)) (K.told keeper.old)) }
+    ensures told { IfOk result (λ found. BySaid (J.inspected judge.now) (J.compared judge.now) (λ M. IsAsIn (λ tables. outcome_on M caller.now act.now (project_named tables owner.now name.now)) (K.told keeper.old) found)) }
     ensures kept { K.told keeper.new ≡ K.told keeper.old }
     ensures counted { Counts result (K.fault_count keeper.old) (K.fault_count keeper.new) }
     ensures may { IfOk result (Belongs act.now) }
@@ -137,7 +138,7 @@ pub(crate) fn outcome<K: Keeper, J: Judge>(
     judge: &J,
 ) -> Result<Outcome, KeepFault>
     requires { Agrees (K.told keeper.old) queues.now }
-    ensures told { IfOk result (IsAsIn (λ tables. outcome (says (J.inspected judge.now) (J.compared judge.now)) tables caller.now act.now) (K.told keeper.old)) }
+    ensures told { IfOk result (λ found. BySaid (J.inspected judge.now) (J.compared judge.now) (λ M. IsAsIn (λ tables. outcome M tables caller.now act.now) (K.told keeper.old) found)) }
     ensures kept { K.told keeper.new ≡ K.told keeper.old }
     ensures counted { Counts result (K.fault_count keeper.old) (K.fault_count keeper.new) }
     ensures may { IfOk result (Belongs act.now) }

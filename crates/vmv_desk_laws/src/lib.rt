@@ -6,7 +6,7 @@
 mod laws;
 
 pub use laws::{
-    callers_are_kept_apart, done_rows_are_held, failures_change_nothing,
+    a_command_has_one_step, callers_are_kept_apart, done_rows_are_held, failures_change_nothing,
     order_of_projects_is_not_seen, others_stay, roots_begin_their_chains,
     versions_are_never_changed,
 };

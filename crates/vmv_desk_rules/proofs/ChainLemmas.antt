@@ -10,7 +10,7 @@ use Rattle.vmv_keeper.specs.Formed.{IsProject}
 use Rattle.vmv_keeper.specs.Tables.{Tables, is_version, root_number}
 use Rattle.vmv_keeper.proofs.FormedReads.{IfSome-find}
 use Rattle.vmv_keeper.proofs.ListChanges.{All-weaken}
-use Rattle.vmv_desk_rules.specs.Causes.{Meaning, root_text}
+use Rattle.vmv_desk_rules.specs.Causes.{Meaning, root_text, chain}
 use Rattle.vmv_desk_rules.specs.Well.{Well, IsReviewed, IsAccepted, Parses}
 use Rattle.vmv_desk_rules.specs.Chain.{KeepsChain, KeepsChains}
 use Rattle.vmv_desk_rules.proofs.RootLemmas.{IsBehind, all_behind, all_straight, all_both, all_chain, begun_root, chain_numbers, numbers_below}
@@ -18,6 +18,15 @@ use Rattle.vmv_desk_rules.proofs.RootLemmas.{IsBehind, all_behind, all_straight,
 -- a number that isn't below another, and isn't that one, is above it
 above_of : (a b : ℕ) → a ≤ b → (a ≡ b → ⊥) → a < b
 above_of a b le differ = omega (arith, le, differ)
+
+-- the versions behind the root, and the numbers of the chain
+pub versions_behind : (J : Meaning) (p : Project) → IsProject p → IsReviewed J p
+    → AllByRecursion (IsBehind (root_number p) (root_text p)) p.versions × AllByRecursion (λ v. root_number p ≤ v.row.number) (chain p)
+versions_behind J p formed reviewed =
+    let any = begun_root p.versions formed.held.opened in (
+      all_behind 1 0 p.versions formed.held.numbered any (all_straight p.versions formed.held.opened formed.later) reviewed.against,
+      chain_numbers 1 0 p.versions formed.held.numbered any,
+    )
 
 module _ (J : Meaning) (Keeps : List ℕ → List ℕ → Type 0)
     (same : (text : List ℕ) → Parses J text → Keeps text text)
@@ -57,22 +66,26 @@ module _ (J : Meaning) (Keeps : List ℕ → List ℕ → Type 0)
       All-weaken (λ v. IsBehind root (root_text p) v × (Parses J v.text × IsAccepted J p v)) (IsKept root (root_text p) (suc high))
       (λ v h low less. one_more root high p v (root == v.row.number) refl kept h.0 h.1.0 h.1.1 low less) p.versions all
 
-  chain_kept : (p : Project) → IsProject p → IsReviewed J p → KeepsChain Keeps p
-  chain_kept p formed reviewed =
+  -- each version from the root on keeps what the root does
+  pub versions_kept : (p : Project) → IsProject p → IsReviewed J p → AllByRecursion (λ v. root_number p ≤ v.row.number → Keeps (root_text p) v.text) p.versions
+  versions_kept p formed reviewed =
       let root = root_number p in
       let text = root_text p in
-      let any = begun_root p.versions formed.held.opened in
-      let behind = all_behind 1 0 p.versions formed.held.numbered any (all_straight p.versions formed.held.opened formed.later) reviewed.against in
-      let facts = all_both (IsBehind root text) (λ v. Parses J v.text × IsAccepted J p v) p.versions behind
+      let facts = all_both (IsBehind root text) (λ v. Parses J v.text × IsAccepted J p v) p.versions (versions_behind J p formed reviewed).0
       (all_both (λ v. Parses J v.text) (IsAccepted J p) p.versions reviewed.texts reviewed.accepted) in
       let high = 1 + length p.versions in
       let kept = kept_below root high p facts in
       let low = numbers_below high 1 p.versions (omega arith) formed.held.numbered in
-      let each = All-weaken (λ v. IsKept root text high v × (v.row.number < high)) (λ v. root ≤ v.row.number → Keeps text v.text) (λ v h at. h.0 at h.1) p.versions
-      (all_both (IsKept root text high) (λ v. v.row.number < high) p.versions kept low) in
-      let from = chain_numbers 1 0 p.versions formed.held.numbered any in
+      All-weaken (λ v. IsKept root text high v × (v.row.number < high)) (λ v. root ≤ v.row.number → Keeps text v.text) (λ v h at. h.0 at h.1) p.versions
+      (all_both (IsKept root text high) (λ v. v.row.number < high) p.versions kept low)
+
+  chain_kept : (p : Project) → IsProject p → IsReviewed J p → KeepsChain Keeps p
+  chain_kept p formed reviewed =
+      let root = root_number p in
+      let text = root_text p in
       All-weaken (λ v. (root ≤ v.row.number) × (root ≤ v.row.number → Keeps text v.text)) (λ v. Keeps text v.text) (λ v h. h.1 h.0) _
-      (all_both (λ v. root ≤ v.row.number) (λ v. root ≤ v.row.number → Keeps text v.text) _ from (all_chain (λ v. root ≤ v.row.number → Keeps text v.text) p.versions each))
+      (all_both (λ v. root ≤ v.row.number) (λ v. root ≤ v.row.number → Keeps text v.text) _ (versions_behind J p formed reviewed).1
+      (all_chain (λ v. root ≤ v.row.number → Keeps text v.text) p.versions (versions_kept p formed reviewed)))
 
   projects_keep : (ps : List Project) → AllByRecursion IsProject ps → AllByRecursion (IsReviewed J) ps → AllByRecursion (KeepsChain Keeps) ps
   projects_keep [] formed reviewed = tt

@@ -5,3 +5,4 @@ pub mod ChainLemmas
 pub mod OnceLemmas
 pub mod BegunLemmas
 pub mod MigratingLemmas
+pub mod HeardLemmas

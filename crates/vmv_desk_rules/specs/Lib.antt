@@ -6,3 +6,4 @@ pub mod Chain
 pub mod Runs
 pub mod Keeping
 pub mod Migrating
+pub mod Heard

@@ -8,7 +8,8 @@ use crate::rows::put_rows;
 use std::alloc::Global;
 use vmv_cases::{Case, Sheet, number, tail, word};
 use vmv_desk::{Desk, StartFault};
-use vmv_keeper::{Command, MemoryKeeper};
+use vmv_gate::Gate;
+use vmv_keeper::{Command, Judge, MemoryKeeper};
 
 /// The number of a call.
 fn call(word: &[u8]) -> Option<u64> {
@@ -169,15 +170,14 @@ fn commands(alloc: Global, case: &Case, sheet: &mut Sheet) -> Vec<Command> {
     commands
 }
 
-/// `? list`: the replies to a history whose commands are handled as one list.
-pub fn list(alloc: Global, case: &Case, sheet: &mut Sheet) {
-    let judge = judge(alloc, case, sheet);
+/// Writes the replies to a history whose commands are handled as one list, by any judge.
+fn put_list<J: Judge>(alloc: Global, case: &Case, judge: &J, sheet: &mut Sheet) {
     let commands = commands(alloc, case, sheet);
     let Some(mut desk) = begin(alloc, b"", sheet) else {
         sheet.refuse();
         return;
     };
-    match desk.handle_all(alloc, commands.as_slice(), &judge) {
+    match desk.handle_all(alloc, commands.as_slice(), judge) {
         Ok(replies) => {
             for reply in replies.as_slice() {
                 put_reply(reply, sheet);
@@ -185,4 +185,15 @@ pub fn list(alloc: Global, case: &Case, sheet: &mut Sheet) {
         }
         Err(_) => sheet.fall_short(),
     }
+}
+
+/// `? list`: the replies to a history whose commands are handled as one list.
+pub fn list(alloc: Global, case: &Case, sheet: &mut Sheet) {
+    let judge = judge(alloc, case, sheet);
+    put_list(alloc, case, &judge, sheet);
+}
+
+/// `? gate`: the same by the gate.
+pub fn gated(alloc: Global, case: &Case, sheet: &mut Sheet) {
+    put_list(alloc, case, &Gate::new(&(), 1), sheet);
 }

@@ -3,6 +3,7 @@ use crate::replies::{put_fault_of_text, put_number};
 use std::alloc::Global;
 use vmv_cases::{Case, Sheet, word};
 use vmv_edge::Text;
+use vmv_gate::Gate;
 use vmv_keeper::{Compared, Inspected, Judge};
 
 fn put_inspected(said: Inspected, sheet: &mut Sheet) {
@@ -45,18 +46,28 @@ fn compare<J: Judge>(judge: &J, alloc: Global, base: &Text, revision: &Text, she
     }
 }
 
-/// `? inspect TEXT` and `? compare BASE REVISION`: what the judge of the text `judge` says.
-pub fn judged(alloc: Global, case: &Case, ask: &[u8], sheet: &mut Sheet) {
-    let judge = judge(alloc, case, sheet);
+/// Writes what any judge says of the texts that an ask names.
+fn ask_judge<J: Judge>(judge: &J, alloc: Global, case: &Case, ask: &[u8], sheet: &mut Sheet) {
     let first = Text::from_slice(alloc, text_of(case, word(ask, 1)));
     let second = Text::from_slice(alloc, text_of(case, word(ask, 2)));
     let (Ok(first), Ok(second)) = (first, second) else {
         sheet.fall_short();
         return;
     };
-    if word(ask, 0) == b"inspect".as_slice() {
-        inspect(&judge, alloc, &first, sheet);
+    if word(ask, 2).is_empty() {
+        inspect(judge, alloc, &first, sheet);
     } else {
-        compare(&judge, alloc, &first, &second, sheet);
+        compare(judge, alloc, &first, &second, sheet);
     }
+}
+
+/// `? inspect TEXT` and `? compare BASE REVISION`: what the judge of the text `judge` says.
+pub fn judged(alloc: Global, case: &Case, ask: &[u8], sheet: &mut Sheet) {
+    let judge = judge(alloc, case, sheet);
+    ask_judge(&judge, alloc, case, ask, sheet);
+}
+
+/// `? gate_inspect TEXT` and `? gate_compare BASE REVISION`: what the gate says.
+pub fn gated(alloc: Global, case: &Case, ask: &[u8], sheet: &mut Sheet) {
+    ask_judge(&Gate::new(&(), 1), alloc, case, ask, sheet);
 }

@@ -33,6 +33,8 @@ fn ask_history(alloc: Global, case: &Case, ask: &[u8], sheet: &mut Sheet) -> boo
         history::rows(alloc, case, ask, sheet);
     } else if word == b"list".as_slice() {
         history::list(alloc, case, sheet);
+    } else if word == b"gate".as_slice() {
+        history::gated(alloc, case, sheet);
     } else {
         return false;
     }
@@ -48,6 +50,8 @@ fn ask_store(alloc: Global, case: &Case, ask: &[u8], sheet: &mut Sheet) -> bool 
         stores::faultless_store(alloc, case, sheet);
     } else if word == b"inspect".as_slice() || word == b"compare".as_slice() {
         judged::judged(alloc, case, ask, sheet);
+    } else if word == b"gate_inspect".as_slice() || word == b"gate_compare".as_slice() {
+        judged::gated(alloc, case, ask, sheet);
     } else {
         return false;
     }

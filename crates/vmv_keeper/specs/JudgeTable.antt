@@ -55,10 +55,20 @@ utf8_row : (row : TextRow) (rest : Inspected) (text : List ℕ) (b : Bool) → p
 utf8_row row rest text true e h g = subst IsUtf8 (same_text row.text text (sym e)) row.utf8
 utf8_row row rest text false e h g = g h
 
+utf8_in : (rows : List TextRow) (text : List ℕ) → IsTrue (parses (said_of rows text)) → IsUtf8 text
+utf8_in [] text h = absurd (cc h)
+utf8_in (row ∷ rest) text h = utf8_row row (said_of rest text) text (pointwise nat_eq row.text text) refl h (utf8_in rest text)
+
 -- a text that parses is in the table, whose texts are UTF-8
-pub utf8_said : (rows : List TextRow) (text : List ℕ) → IsTrue (parses (said_of rows text)) → IsUtf8 text
-utf8_said [] text h = absurd (cc h)
-utf8_said (row ∷ rest) text h = utf8_row row (said_of rest text) text (pointwise nat_eq row.text text) refl h (utf8_said rest text)
+pub utf8_said : (rows : List TextRow) (text : List ℕ) (said : Inspected) → said ≡ said_of rows text → IsTrue (parses said) → IsUtf8 text
+utf8_said rows text said is h = utf8_in rows text (subst (λ s. IsTrue (parses s)) is h)
+
+-- what is the same as one thing is one
+pub one_said : {X : Type 0} (one other said : X) → one ≡ said → other ≡ said → one ≡ other
+one_said one other said h k = subst (λ s. one ≡ s) (sym k) h
+
+pub verdict_said : (said compared : Compared) → said ≡ compared → HasVerdict 1 said → HasVerdict 1 compared
+verdict_said said compared is h = subst (HasVerdict 1) is h
 
 -- a verdict on two texts that parse
 abbrev IsJudged : Compared → Type 0
@@ -83,8 +93,16 @@ readable_if false revision said h = inl (refl, refl)
 readable_if true false said h = inr (refl, refl, refl)
 readable_if true true said h = readable_said said h
 
--- a comparison is unreadable where a text doesn't parse, and nowhere else
-pub readable_by : (judge : MemoryJudge) (base revision : List ℕ)
+readable_by : (judge : MemoryJudge) (base revision : List ℕ)
     → IsReadable (compared_by judge base revision) (parses (inspected_by judge base)) (parses (inspected_by judge revision))
 readable_by judge base revision =
     readable_if (parses (inspected_by judge base)) (parses (inspected_by judge revision)) (judged_by judge base revision) (judged_each judge.verdicts.items base revision)
+
+-- a comparison is unreadable where a text doesn't parse, and nowhere else
+pub readable_said_by : (judge : MemoryJudge) (base revision : List ℕ) (first second : Inspected) (said : Compared) → first ≡ inspected_by judge base
+    → second ≡ inspected_by judge revision → said ≡ compared_by judge base revision → IsReadable said (parses first) (parses second)
+readable_said_by judge base revision first second said h k is =
+    let P : Compared → Type 0 = λ s. IsReadable s (parses (inspected_by judge base)) (parses (inspected_by judge revision)) in
+    let Q : Inspected → Type 0 = λ s. IsReadable said (parses s) (parses (inspected_by judge revision)) in
+    let R : Inspected → Type 0 = λ s. IsReadable said (parses first) (parses s) in
+    subst R (sym k) (subst Q (sym h) (subst P (sym is) (readable_by judge base revision)))

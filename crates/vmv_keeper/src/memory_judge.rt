@@ -110,11 +110,11 @@ impl MemoryJudge {
 }
 
 impl Judge for MemoryJudge {
-    ghost use Rattle.vmv_keeper.specs.JudgeTable.{inspected_by, compared_by, Reaches, same, step, chain, utf8_said, readable_by};
+    ghost use Rattle.vmv_keeper.specs.JudgeTable.{inspected_by, compared_by, Reaches, same, step, chain, utf8_said, readable_said_by, verdict_said, one_said};
 
-    ghost inspected = { inspected_by };
+    ghost inspected = { λ judge text said. said ≡ inspected_by judge text };
 
-    ghost compared = { compared_by };
+    ghost compared = { λ judge base revision said. said ≡ compared_by judge base revision };
 
     ghost keeps = { λ judge. Reaches (compared_by judge) };
 
@@ -132,13 +132,17 @@ impl Judge for MemoryJudge {
         judged_in(alloc, self.verdicts.as_slice(), base, revision)
     }
 
-    ghost utf8 = { λ judge text h. utf8_said judge.texts.items text h };
+    ghost one_inspected = { λ judge text one other h k. one_said one other (inspected_by judge text) h k };
 
-    ghost readable = { readable_by };
+    ghost one_compared = { λ judge base revision one other h k. one_said one other (compared_by judge base revision) h k };
 
-    ghost reflexive = { λ judge text h. same text };
+    ghost utf8 = { λ judge text said is h. utf8_said judge.texts.items text said is h };
+
+    ghost readable = { λ judge base revision first second said h k is. readable_said_by judge base revision first second said h k is };
+
+    ghost reflexive = { λ judge text said is h. same text };
 
     ghost transitive = { λ judge first second third h g. chain first second third h g };
 
-    ghost sound = { λ judge base revision h. step base revision h };
+    ghost sound = { λ judge base revision said is h. step base revision (verdict_said said (compared_by judge base revision) is h) };
 }

@@ -139,6 +139,27 @@ module _ (within_whole : (env : Environment) → IsWithin env (λ name. whole))
   pub verdict_correct : (base revision : Resolution) (report : Report) → IsResolution base → IsResolution revision → IsReport base revision report → report.verdict ≡ 1 → RelCorrect (tree_of base) (tree_of revision)
   verdict_correct base revision report is_base is_revision is one = told_correct base revision report is.scope is.needed is.enough is_base is_revision is.found.needed_is is.tells one
 
+  told_within : (revision : Resolution) (report : Report) (ends : List NameEnds) (needed : Needed) (enough held : Option (List (Name × Cond))) (conds : List (Name × Cond)) (env : Environment) → IsResolution revision →
+      Tells revision ends needed enough report → report.verdict ≡ 1 → held ≡ report.conditions → held ≡ Some conds → IsWithin env (cond_of conds) → Safe env (tree_of revision)
+  told_within revision report ends (Vacuous shown) enough held conds env is_revision tells one is some inside =
+      let e : report.verdict ≡ 4 = ap (λ (r : Report). r.verdict) tells in absurd (cc)
+  told_within revision report ends (Conditions needed cuts) enough held conds env is_revision tells one is some inside =
+      let v = tells.verdict in
+      let no : (class_count Regression report.rows ≡ 0) × (class_count Alarm report.rows ≡ 0) = ⊎_elim
+      (λ (h : (verdict_of report.rows ≡ 1) × (class_count Regression report.rows ≡ 0) × (class_count Alarm report.rows ≡ 0)). (h.1, h.2))
+      (λ (h : (verdict_of report.rows ≡ 2) ⊎ (verdict_of report.rows ≡ 3)). absurd (⊎_elim (λ (two : verdict_of report.rows ≡ 2). cc) (λ (three : verdict_of report.rows ≡ 3). cc) h))
+      (verdict_cases report.rows) in
+      let both : Some conds ≡ Some needed = sym some ∙ (is ∙ tells.conditions) in
+      let same : conds ≡ needed = cc in
+      rows_safe (record { revision = revision; ends = ends; needed = cond_of needed; enough = enough }) report.rows env is_revision tells.rows no.0 no.1
+      (subst (λ (held : List (Name × Cond)). IsWithin env (cond_of held)) same inside)
+
+  -- within what is necessary for the base a correct revision is safe
+  pub verdict_within : (base revision : Resolution) (report : Report) (held : List (Name × Cond)) (env : Environment) → IsResolution revision → IsReport base revision report → report.verdict ≡ 1 →
+      report.conditions ≡ Some held → IsWithin env (cond_of held) → Safe env (tree_of revision)
+  verdict_within base revision report held env is_revision is one some inside =
+      told_within revision report is.scope.ends is.needed is.enough report.conditions held env is_revision is.tells one refl some inside
+
 module _ (none_safe : (program : Resolution) (scope : Scope) (assumed : Assumed) (env : Environment) → IsResolution program → IsNecessary program scope assumed → IsVacuous program scope assumed → Covers env (tree_of program) → Safe env (tree_of program) → ⊥) where
   told_vacuous : (base revision : Resolution) (report : Report) (env : Environment) (scope : Scope) (needed : Needed) (enough : Option (List (Name × Cond))) → IsResolution base → IsFound base scope needed → Tells revision scope.ends needed enough report →
       report.verdict ≡ 4 → Covers env (tree_of base) → Safe env (tree_of base) → ⊥

@@ -1,5 +1,9 @@
-ghost use Rattle.std.specs.Prelude.{◌≡◌, ◌∷◌, ◌++◌, ℕ, List, codes, nat_eq, IsTrue};
+ghost use Rattle.std.specs.Prelude.{◌≡◌, ◌∷◌, ◌++◌, ℕ, List, Some, codes, nat_eq, IsTrue};
 ghost use Rattle.std.specs.List.{starts_with};
+ghost use Rattle.vmv_tree.specs.declared.name.Name.{Name};
+ghost use Rattle.vmv_cond.specs.declared.cond.Cond.{Cond};
+ghost use Rattle.vmv_assumption.specs.Assumed.{cond_of};
+ghost use Rattle.vmv_assumption.specs.Within.{IsWithin};
 ghost use Rattle.vmv_tree.specs.Safe.{Environment, Covers, Safe, RelCorrect};
 ghost use Rattle.vmv_snapshot.specs.Resolution.{Resolution, IsResolution, tree_of};
 ghost use Rattle.vmv_report.specs.declared.report.Report.{Report};
@@ -17,6 +21,16 @@ use vmv_table_sound::{
 /// Where the verdict is 1, the revision is relatively correct to the base.
 pub fn correct_verdicts_hold()
     ensures { (base revision : Resolution) (report : Report) → IsResolution base → IsResolution revision → IsReport base revision report → report.verdict ≡ 1 → RelCorrect (tree_of base) (tree_of revision) }
+{
+    every_environment_is_within_whole();
+    safe_environments_meet_the_necessary();
+    failing_sites_are_reached();
+    provable_sites_dont_fail();
+}
+
+/// Where the verdict is 1, the revision is safe in every environment within what is necessary for the base.
+pub fn correct_revisions_are_safe_within_the_necessary()
+    ensures { (base revision : Resolution) (report : Report) (held : List (Name × Cond)) (env : Environment) → IsResolution revision → IsReport base revision report → report.verdict ≡ 1 → report.conditions ≡ Some held → IsWithin env (cond_of held) → Safe env (tree_of revision) }
 {
     every_environment_is_within_whole();
     safe_environments_meet_the_necessary();

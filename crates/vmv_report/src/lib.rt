@@ -21,8 +21,8 @@ pub use finding::baseline;
 pub use judging::{judge, judge_by};
 pub use kept::Baseline;
 pub use laws::{
-    correct_verdicts_hold, only_correct_reports_say_so, regressing_reports_show_it,
-    vacuous_verdicts_hold,
+    correct_revisions_are_safe_within_the_necessary, correct_verdicts_hold,
+    only_correct_reports_say_so, regressing_reports_show_it, vacuous_verdicts_hold,
 };
 pub use report::{Report, Witnesses};
 pub use row::{ReportRow, ReportRows};

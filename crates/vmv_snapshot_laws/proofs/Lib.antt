@@ -1,0 +1,4 @@
+mod Views
+mod CodeViews
+mod Once
+pub mod Codes
