@@ -1,10 +1,12 @@
 -- What the forms in memory hold, and which of their calls fail.
-use Rattle.std.specs.Prelude.{ℕ, ◌+◌, ◌<◌, ◌⊎◌, List, [], Option, Some, None, IsTrue, IsNone, min, length, unwrap_or, if◌then◌else◌}
+use Rattle.std.specs.Prelude.{ℕ, ◌+◌, ◌<◌, ◌⊎◌, List, [], Option, Some, None, IsTrue, IsNone, min, max, length, drop, unwrap_or, if◌then◌else◌}
 use Rattle.vmv_edge.specs.declared.calls.Calls.{Calls}
 use Rattle.vmv_edge.specs.declared.memory_shelf.MemoryShelf.{MemoryShelf}
 use Rattle.vmv_edge.specs.declared.memory_shelf.FaultlessShelf.{FaultlessShelf}
 use Rattle.vmv_edge.specs.declared.memory_sink.MemorySink.{MemorySink}
 use Rattle.vmv_edge.specs.declared.memory_sink.FaultlessSink.{FaultlessSink}
+use Rattle.vmv_edge.specs.declared.memory_link.MemoryLink.{MemoryLink}
+use Rattle.vmv_edge.specs.declared.memory_link.FaultlessLink.{FaultlessLink}
 use Rattle.vmv_edge.specs.declared.vault.MemoryVault.{MemoryVault}
 use Rattle.vmv_edge.specs.declared.door.MemoryDoor.{MemoryDoor}
 use Rattle.vmv_edge.specs.Calls.{is_to_fail}
@@ -61,3 +63,46 @@ vault_calls vault = vault.calls
 
 abbrev pub door_calls : MemoryDoor → Calls
 door_calls door = door.calls
+
+-- the bytes that a link has still to give
+abbrev pub unread : MemoryLink → List ℕ
+unread link = drop link.stock.given link.stock.bytes.items
+
+-- the bytes that were written to a link
+abbrev pub sent : MemoryLink → List ℕ
+sent link = link.room.bytes.items
+
+abbrev pub link_calls : MemoryLink → Calls
+link_calls link = link.calls
+
+-- how many bytes a link was made for
+abbrev pub sent_size_of : MemoryLink → ℕ
+sent_size_of link = link.room.size
+
+-- the most bytes of one call
+abbrev pub call_size_of : MemoryLink → ℕ
+call_size_of link = link.most
+
+-- how many bytes the next read gives for so much room
+abbrev pub read_share : MemoryLink → ℕ → ℕ
+read_share link len = min (min len (max (call_size_of link) 1)) (length (unread link))
+
+-- how many bytes of a piece the next write takes
+abbrev pub write_share : MemoryLink → List ℕ → ℕ
+write_share link piece = min (length piece) (call_size_of link)
+
+-- the next write is to fail, or goes past the room
+abbrev pub SendFails : MemoryLink → List ℕ → Type 0
+SendFails link piece = IsTrue (is_to_fail (link_calls link)) ⊎ (sent_size_of link < length (sent link) + write_share link piece)
+
+-- the bytes that a link that never fails has still to give
+abbrev pub whole_unread : FaultlessLink → List ℕ
+whole_unread link = drop link.stock.given link.stock.bytes.items
+
+-- the bytes that were written to it, where all fitted into its room
+abbrev pub whole_sent : FaultlessLink → Option (List ℕ)
+whole_sent link = if link.full then None else Some link.room.bytes.items
+
+-- how many bytes a link that never fails was made for
+abbrev pub whole_sent_size_of : FaultlessLink → ℕ
+whole_sent_size_of link = link.room.size

@@ -1,5 +1,5 @@
 -- What is told of things outside: their counts of faults, and their content where they tell it.
-use Rattle.std.specs.Prelude.{◌≡◌, ◌⊎◌, ℕ, ◌-◌, ◌^◌, ◌<◌, List, ◌++◌, length, take, Option, Some, None, Result, Ok, Err, ⊤}
+use Rattle.std.specs.Prelude.{◌≡◌, ◌⊎◌, ℕ, ◌-◌, ◌^◌, ◌<◌, List, [], ◌++◌, length, take, Option, Some, None, Result, Ok, Err, ⊤}
 
 -- a count of faults that is greater now, or stands at the last value of its type
 abbrev pub Rose : ℕ → ℕ → Type 0
@@ -34,3 +34,14 @@ TookNothing (Err e) len = ⊥
 abbrev pub TookSome : {E : Type 0} → Result ℕ E → ℕ → Type 0
 TookSome (Ok n) len = (0 < n) ⊎ (len ≡ 0)
 TookSome (Err e) len = ⊥
+
+-- where what is still to be read is told, these bytes were its front, and the rest is told now
+abbrev pub WasRead : Option (List ℕ) → List ℕ → Option (List ℕ) → Type 0
+WasRead None bytes now = ⊤
+WasRead (Some before) bytes None = ⊥
+WasRead (Some before) bytes (Some now) = before ≡ bytes ++ now
+
+-- where what is still to be read is told, it is nothing
+abbrev pub IsAtEnd : Option (List ℕ) → Type 0
+IsAtEnd None = ⊤
+IsAtEnd (Some rest) = rest ≡ []

@@ -1,0 +1,5 @@
+pub mod Moving
+pub mod Reading
+pub mod Naming
+pub mod Counting
+pub mod Heading

@@ -1,0 +1,7 @@
+-- The value of the digits so far.
+use Rattle.std.proofs.Common.{◌≡◌, min, take}
+use Rattle.std.specs.Str.Parse.{digits_value}
+use Rattle.vmv_head.proofs.lines.value_of.Given as goal
+
+abbrev pub invariant-loop-digit : goal.invariant-loop-digit
+invariant-loop-digit l = l.value ≡ min (digits_value 10 (take l.digit-index l.digits)) l.most

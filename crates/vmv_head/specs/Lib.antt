@@ -1,0 +1,5 @@
+pub mod Refusals
+pub mod Heads
+pub mod Places
+pub mod Lines
+pub mod Reads

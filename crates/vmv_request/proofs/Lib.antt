@@ -1,0 +1,4 @@
+pub mod Adding
+pub mod Whole
+pub mod Labels
+pub mod Joining
