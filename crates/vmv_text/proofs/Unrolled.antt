@@ -1,10 +1,11 @@
 -- The tokens of a text are its first, and those of what is behind it.
-use Rattle.std.proofs.Common.{◌≡◌, ℕ, zero, suc, ◌+◌, ◌<◌, ◌≤◌, Bool, true, false, not, ◌&&◌, ◌||◌, cond, Option, Some, None, List, [], ◌∷◌, length, drop, take, refl, ap, ◌∙◌, arith, length-drop}
+use Rattle.std.proofs.Common.{◌≡◌, ℕ, zero, suc, ◌+◌, ◌<◌, ◌≤◌, Bool, true, false, not, ◌&&◌, ◌||◌, cond, Option, Some, None, List, [], ◌∷◌, length, drop, take, refl, sym, ap, ◌∙◌, arith, length-drop}
 use Rattle.std.specs.Prelude.{◌==◌, if◌then◌else◌, unwrap_or}
 use Rattle.std.specs.Option.{option_map}
 use Rattle.vmv_tree.specs.Names.{is_letter, is_digit}
 use Rattle.vmv_text.specs.declared.token.Token.{Token}
 use Rattle.vmv_text.specs.Faults.{left_from}
+use Rattle.vmv_text.specs.Reading.{first_of, front_tokens, IsEnd, IsFront}
 use Rattle.vmv_text.specs.Tokens.{Placed, is_white, begins_with, after_gap, token_at, mark_token, token_and, tokens_in, placed_tokens, spelled, pairs}
 
 mark_some : (o : Option Token) (t : Token) → 0 < (unwrap_or {T = Token × ℕ} (option_map (λ (t : Token). (t, 2)) o) (t, 1)).1
@@ -71,10 +72,25 @@ pub first_longer : (at : List ℕ) → 0 < length at → 0 < (token_at at).1
 first_longer [] h = absurd (omega arith)
 first_longer (b ∷ rest) h = some_bytes b rest
 
--- what is left from the next token on
-pub left-gap : (text : List ℕ) → left_from (placed_tokens text) ≡ after_gap false text
-left-gap text = by_gap (after_gap false text) refl
-  where
-    by_gap : (at : List ℕ) → after_gap false text ≡ at → left_from (placed_tokens text) ≡ at
-    by_gap [] h = ap left_from (placed-none text h)
-    by_gap (b ∷ rest) h = ap left_from (placed-some text b rest h)
+-- no token is next, and one is
+pub front_none : (text at : List ℕ) → after_gap false text ≡ at → at ≡ [] → IsFront text None at at
+front_none text at h e = record { same = sym (placed-none text (h ∙ e)); end = λ none. (e, e) }
+
+pub front_some : (text at behind : List ℕ) (token : Token) → after_gap false text ≡ at → 0 < length at → token ≡ (token_at at).0 → behind ≡ drop (token_at at).1 at → IsFront text (Some token) at behind
+front_some text at behind token h k e f = record {
+  same = ap (λ t. front_tokens (Some t) at behind) e ∙ (ap (λ more. front_tokens (Some (token_at at).0) at more) f ∙ sym (placed-first text at h k));
+  end = λ none. absurd (cc none);
+}
+
+-- what the next token, the text from it on and the text behind it are of the tokens that are left
+pub front_first : (token : Option Token) (from behind : List ℕ) → token ≡ first_of (front_tokens token from behind)
+front_first None from behind = refl
+front_first (Some t) from behind = refl
+
+pub front_left : (token : Option Token) (from behind : List ℕ) → IsEnd token from behind → from ≡ left_from (front_tokens token from behind)
+front_left None from behind end = (end refl).0
+front_left (Some t) from behind end = refl
+
+pub front_rest : (token : Option Token) (from behind : List ℕ) → IsEnd token from behind → placed_tokens behind ≡ drop 1 (front_tokens token from behind)
+front_rest None from behind end = ap placed_tokens (end refl).1 ∙ placed-none [] refl
+front_rest (Some t) from behind end = refl

@@ -71,7 +71,7 @@ impl Cursor<'_> {
         ensures reads { ReadsAs stmt_of IsStmt NoElse result self.old self.new }
         ensures shorter { OnOk result (length self.new < length self.old) }
     {
-        let Some(first) = self.peek() else {
+        let Some(first) = *self.peek() else {
             return Err(Fault::Syntax);
         };
         match first {

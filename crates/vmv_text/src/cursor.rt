@@ -3,7 +3,7 @@ ghost use Rattle.std.specs.Bool.{OnTrue};
 ghost use Rattle.vmv_text.specs.Tokens.{placed_tokens};
 ghost use Rattle.vmv_text.specs.Faults.{left_from};
 ghost use Rattle.vmv_text.specs.Symbols.{as_token};
-ghost use Rattle.vmv_text.specs.Reading.{Reads, Tests, IsToken, first_of};
+ghost use Rattle.vmv_text.specs.Reading.{Reads, Tests, IsToken, IsFront, first_of};
 
 use crate::fault::Fault;
 use crate::lexer::{behind_gap, token_at};
@@ -11,40 +11,67 @@ use crate::symbol::{Symbol, is_token};
 use crate::token::Token;
 use std::marker::Model;
 
-/// What is left of a text, which is read token by token.
+/// The next token of a text, with the text from it on and the text behind it.
+#[derive(Clone, Copy, Drop)]
+struct Front<'a> {
+    token: Option<Token>,
+    from: &'a [u8],
+    behind: &'a [u8],
+}
+
+/// Reads the next token.
+fn lexed(text: &[u8]) -> Front<'_>
+    ensures { IsFront text.now result.token result.from.now result.behind.now }
+{
+    let from = behind_gap(text);
+    if from.is_empty() {
+        return Front {
+            token: None,
+            from,
+            behind: from,
+        };
+    }
+    let (token, len) = token_at(from);
+    let (_own, behind) = from.split_at(len);
+    Front {
+        token: Some(token),
+        from,
+        behind,
+    }
+}
+
+/// What is left of a text, which is read token by token. The next token is known, so that each is read once.
 #[derive(Drop)]
 pub(crate) struct Cursor<'a> {
-    left: &'a [u8],
+    front: Front<'a>,
 }
 
 impl<'a> Model for Cursor<'a> {
     ghost use Rattle.std.specs.Prelude.{List};
-    ghost use Rattle.vmv_text.specs.Tokens.{Placed, placed_tokens};
+    ghost use Rattle.vmv_text.specs.Tokens.{Placed};
+    ghost use Rattle.vmv_text.specs.Reading.{front_tokens, IsEnd};
 
     ghost Value = { List Placed };
 
-    ghost view = { λ c. placed_tokens c.left.now };
+    ghost view = { λ c. front_tokens c.front.token c.front.from.now c.front.behind.now };
+
+    ghost invariant = { λ c. IsEnd c.front.token c.front.from.now c.front.behind.now };
 }
 
 impl<'a> Cursor<'a> {
     pub(crate) fn new(text: &'a [u8]) -> Cursor<'a>
         ensures { result ≡ placed_tokens text.now }
     {
-        Cursor { left: text }
+        Cursor { front: lexed(text) }
     }
 }
 
 impl Cursor<'_> {
     /// The next token, which stays.
-    pub(crate) fn peek(&self) -> Option<Token>
-        ensures { result ≡ first_of self.now }
+    pub(crate) fn peek(&self) -> &Option<Token>
+        ensures { result.now ≡ first_of self.now }
     {
-        let text = behind_gap(self.left);
-        if text.is_empty() {
-            return None;
-        }
-        let (token, _len) = token_at(text);
-        Some(token)
+        &self.front.token
     }
 
     /// Leaves out the next token.
@@ -52,20 +79,14 @@ impl Cursor<'_> {
         ensures exact { self.new ≡ drop 1 self.old }
         ensures shorter { 0 < length self.old → length self.new < length self.old }
     {
-        let text = behind_gap(self.left);
-        if text.is_empty() {
-            return;
-        }
-        let (_token, len) = token_at(text);
-        let (_front, rest) = text.split_at(len);
-        self.left = rest;
+        self.front = lexed(self.front.behind);
     }
 
     /// How many bytes are left from the next token on.
     pub(crate) fn left(&self) -> usize
         ensures { result ≡ length (left_from self.now) }
     {
-        behind_gap(self.left).len()
+        self.front.from.len()
     }
 
     /// Takes the next token, which must be this one.

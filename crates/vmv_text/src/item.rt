@@ -76,7 +76,7 @@ impl Cursor<'_> {
         ensures reads { ReadsAs item_of IsItem Any result self.old self.new }
         ensures shorter { OnOk result (length self.new < length self.old) }
     {
-        let Some(word) = self.peek() else {
+        let Some(word) = *self.peek() else {
             return Err(Fault::Syntax);
         };
         match word {

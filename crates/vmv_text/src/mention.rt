@@ -12,10 +12,10 @@ impl Cursor<'_> {
         ensures { AtName 0 result self.old self.new }
     {
         loop {
-            let Some(token) = self.peek() else {
+            let Some(token) = *self.peek() else {
                 return false;
             };
-            if name_of(Some(token)).is_some() {
+            if name_of(&Some(token)).is_some() {
                 return true;
             }
             self.skip();

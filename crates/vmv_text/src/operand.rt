@@ -13,61 +13,61 @@ use crate::token::Token;
 use vmv_tree::{Name, Op, Operand, Rel, Test};
 
 /// The name that a token is.
-pub(crate) fn name_of(token: Option<Token>) -> Option<Name>
-    ensures { MatchOption result ((x : Name) → token ≡ Some (Named x) → ⊥) (λ x. token ≡ Some (Named x)) }
+pub(crate) fn name_of(token: &Option<Token>) -> Option<Name>
+    ensures { MatchOption result ((x : Name) → token.now ≡ Some (Named x) → ⊥) (λ x. token.now ≡ Some (Named x)) }
 {
-    match token? {
-        Token::Named(name) => Some(name),
+    match token {
+        Some(Token::Named(name)) => Some(*name),
         _ => None,
     }
 }
 
 /// The number from 0 to 2^63 - 1 that a token is.
-fn small_of(token: Option<Token>) -> Option<i64>
-    ensures { MatchOption result ((n : ℕ) → token ≡ Some (Number n) → ⊥) (λ z. (n : ℕ) × (z ≡ pos n) × (token ≡ Some (Number n))) }
+fn small_of(token: &Option<Token>) -> Option<i64>
+    ensures { MatchOption result ((n : ℕ) → token.now ≡ Some (Number n) → ⊥) (λ z. (n : ℕ) × (z ≡ pos n) × (token.now ≡ Some (Number n))) }
 {
-    match token? {
-        Token::Number(number) => Some(number.word()),
+    match token {
+        Some(Token::Number(number)) => Some(number.word()),
         _ => None,
     }
 }
 
 /// The word that a token is behind `-`.
-fn negative_of(token: Option<Token>) -> Option<i64>
-    ensures { MatchOption result (IsNoSize token) (λ z. IsSizeOf z token) }
+fn negative_of(token: &Option<Token>) -> Option<i64>
+    ensures { MatchOption result (IsNoSize token.now) (λ z. IsSizeOf z token.now) }
 {
-    match token? {
-        Token::Number(number) => Some(number.negated()),
-        Token::Edge => Some(i64::MIN),
+    match token {
+        Some(Token::Number(number)) => Some(number.negated()),
+        Some(Token::Edge) => Some(i64::MIN),
         _ => None,
     }
 }
 
 /// The operation that a token stands for.
-fn op_of(token: Option<Token>) -> Option<Op>
-    ensures { MatchOption result ((op : Op) → token ≡ Some (op_token op) → ⊥) (λ op. token ≡ Some (op_token op)) }
+fn op_of(token: &Option<Token>) -> Option<Op>
+    ensures { MatchOption result ((op : Op) → token.now ≡ Some (op_token op) → ⊥) (λ op. token.now ≡ Some (op_token op)) }
 {
-    match token? {
-        Token::Plus => Some(Op::Add),
-        Token::Minus => Some(Op::Sub),
-        Token::Star => Some(Op::Mul),
-        Token::Slash => Some(Op::Div),
-        Token::Percent => Some(Op::Rem),
+    match token {
+        Some(Token::Plus) => Some(Op::Add),
+        Some(Token::Minus) => Some(Op::Sub),
+        Some(Token::Star) => Some(Op::Mul),
+        Some(Token::Slash) => Some(Op::Div),
+        Some(Token::Percent) => Some(Op::Rem),
         _ => None,
     }
 }
 
 /// The comparison that a token stands for.
-fn rel_of(token: Option<Token>) -> Option<Rel>
-    ensures { MatchOption result ((rel : Rel) → token ≡ Some (rel_token rel) → ⊥) (λ rel. token ≡ Some (rel_token rel)) }
+fn rel_of(token: &Option<Token>) -> Option<Rel>
+    ensures { MatchOption result ((rel : Rel) → token.now ≡ Some (rel_token rel) → ⊥) (λ rel. token.now ≡ Some (rel_token rel)) }
 {
-    match token? {
-        Token::DoubleEquals => Some(Rel::Equal),
-        Token::NotEquals => Some(Rel::Unequal),
-        Token::LessThan => Some(Rel::Less),
-        Token::LessOrEqual => Some(Rel::AtMost),
-        Token::GreaterThan => Some(Rel::Greater),
-        Token::GreaterOrEqual => Some(Rel::AtLeast),
+    match token {
+        Some(Token::DoubleEquals) => Some(Rel::Equal),
+        Some(Token::NotEquals) => Some(Rel::Unequal),
+        Some(Token::LessThan) => Some(Rel::Less),
+        Some(Token::LessOrEqual) => Some(Rel::AtMost),
+        Some(Token::GreaterThan) => Some(Rel::Greater),
+        Some(Token::GreaterOrEqual) => Some(Rel::AtLeast),
         _ => None,
     }
 }

@@ -24,8 +24,8 @@ pub(crate) enum Symbol {
 }
 
 /// The symbol that a token is.
-fn symbol_of(token: Token) -> Option<Symbol>
-    ensures { result ≡ symbol_in token }
+fn symbol_of(token: &Token) -> Option<Symbol>
+    ensures { result ≡ symbol_in token.now }
 {
     match token {
         Token::Minus => Some(Symbol::Minus),
@@ -48,8 +48,8 @@ fn symbol_of(token: Token) -> Option<Symbol>
 }
 
 /// Whether there is a token, and it is this one.
-pub(crate) fn is_token(token: Option<Token>, wanted: Symbol) -> bool
-    ensures { IsTrue result ↔ (token ≡ Some (as_token wanted)) }
+pub(crate) fn is_token(token: &Option<Token>, wanted: Symbol) -> bool
+    ensures { IsTrue result ↔ (token.now ≡ Some (as_token wanted)) }
 {
     let Some(token) = token else {
         return false;
