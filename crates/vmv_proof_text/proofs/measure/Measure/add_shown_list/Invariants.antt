@@ -1,0 +1,11 @@
+use Rattle.std.proofs.Common.{◌≡◌, ◌+◌, [], drop, length}
+use Rattle.std.specs.List.{flat_map}
+use Rattle.vmv_proof_text.specs.Lengths.{capped}
+use Rattle.vmv_proof_text.specs.Parts.{parts_of_shown}
+use Rattle.vmv_proof_text.specs.Text.{parts_text}
+use Rattle.vmv_proof_text.proofs.measure.Measure.add_shown_list.Given as goal
+
+abbrev pub invariant-loop-entry : goal.invariant-loop-entry
+invariant-loop-entry l =
+    (l.self.lines.items ≡ [])
+    × (capped (l.self.total + length (parts_text (flat_map parts_of_shown (drop l.entry-index l.shown)))) ≡ capped (l.fn.self.total + length (parts_text (flat_map parts_of_shown l.shown))))
