@@ -27,7 +27,7 @@ use Rattle.vmv_cert.specs.declared.row.Reach.{Reach}
 use Rattle.vmv_cert.specs.Walk.{Returns}
 use Rattle.vmv_cert.specs.Tables.{Box, IsBoxState, IsBoxIn, IsRowAbove, Dead, ranges_of}
 use Rattle.vmv_check.proofs.Lists.{some_same}
-use Rattle.vmv_table_sound.specs.Told.{AreInBox}
+use Rattle.vmv_table_sound.specs.Told.{AreInBox, SaysNoReturn}
 use Rattle.vmv_table_sound.proofs.Rows.{sound}
 
 -- the word of one place, and its range
@@ -91,14 +91,18 @@ row_input program number box row words a are =
       point = below_point a.input row.input (words_at words) a.input_norm.vars a.input_norm.below two;
     }
 
-pub dead_stays : (program : Resolution) (number : ℕ) (box : Box) (ends : List NameEnds) (assumed : Assumed) (name : Name) (words : List ℤ) (answers : Answers) (word : ℤ) → IsResolution program →
-    Dead program number box ends assumed → IsProcName (tree_of program) number name → AreInBox box words → Meet answers assumed → Run (tree_of program) name words answers (done word) → ⊥
-dead_stays program number box ends assumed name words answers word is (params, entry, inside, (rows, row, accepted, thresholds, one, above, bottom)) at are meet run =
+pub dead_stays : (program : Resolution) (number : ℕ) (box : Box) (assumed : Assumed) (rows : List Row) (name : Name) (words : List ℤ) (answers : Answers) (word : ℤ) → IsResolution program →
+    SaysNoReturn program number box assumed rows → IsProcName (tree_of program) number name → AreInBox box words → Meet answers assumed → Run (tree_of program) name words answers (done word) → ⊥
+dead_stays program number box assumed rows name words answers word is (params, entry, inside, (row, accepted, one, above, bottom)) at are meet run =
     let same : name ≡ row.proc = some_same (sym at ∙ above.named) in
     let P : Name → Type 0 = λ x. Run (tree_of program) x words answers (done word) in
     let input = row_input program number box row words above are in
     let told : Returns row.result word = sound program assumed rows row words answers (done word) is accepted one input.long input.point meet (subst P same run) in
     subst (λ (r : Reach). Returns r word) bottom told
+
+-- a table of threshold states is a table
+pub dead_says : (program : Resolution) (number : ℕ) (box : Box) (ends : List NameEnds) (assumed : Assumed) → Dead program number box ends assumed → (rows : List Row) × SaysNoReturn program number box assumed rows
+dead_says program number box ends assumed (params, entry, inside, (rows, row, accepted, thresholds, one, above, bottom)) = (rows, (params, entry, inside, (row, accepted, one, above, bottom)))
 
 top_high : (y : ℕ) → 1 ≤ y → top_bound y 0 ≡ pos (2 ^ 63 - 1)
 top_high y h = grind arith

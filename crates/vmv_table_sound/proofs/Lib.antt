@@ -1,10 +1,10 @@
-mod Lists
-mod Leads
-mod Steady
-mod Loops
-mod Calls
-mod Walks
-mod Rows
-mod Boxes
+pub mod Lists
+pub mod Leads
+pub mod Steady
+pub mod Loops
+pub mod Calls
+pub mod Walks
+pub mod Rows
+pub mod Boxes
 pub mod Environments
-mod Sites
+pub mod Sites

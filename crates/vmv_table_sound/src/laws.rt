@@ -17,7 +17,7 @@ ghost use Rattle.vmv_step.specs.Agree.{words_at};
 ghost use Rattle.vmv_run.specs.Replay.{IsProcName};
 ghost use Rattle.vmv_cert.specs.declared.row.Row.{Row};
 ghost use Rattle.vmv_cert.specs.Tables.{Accepted, Box, IsSiteOf, Provable, Dead};
-ghost use Rattle.vmv_table_sound.specs.Told.{named, IsTold, AreInBox, IsProved};
+ghost use Rattle.vmv_table_sound.specs.Told.{named, IsTold, AreInBox, IsProved, SaysNoReturn, LeavesOut};
 
 /// A run that starts at a point of the input of an accepted table's row, and whose answers meet what is assumed, ends as
 /// the row tells.
@@ -54,4 +54,16 @@ pub fn failing_sites_are_reached()
 /// Where each site that an entry reaches is provable, each environment within what is assumed is safe.
 pub fn proved_programs_are_safe()
     ensures { (program : Resolution) (ends : List NameEnds) (assumed : Assumed) (env : Environment) → IsResolution program → IsProved program ends assumed → IsWithin env assumed → Safe env (tree_of program) }
+{}
+
+/// Where an accepted table, whatever its states at loops are, says that an entry doesn't return with the condition of f kept
+/// to a piece, a safe environment within what is assumed has no word of the piece for f.
+pub fn tables_avoid_pieces()
+    ensures { (program : Resolution) (number : ℕ) (box : Box) (assumed kept : Assumed) (rows : List Row) (f : Name) (piece : Piece) (env : Environment) → IsResolution program → IsKept assumed f piece kept → SaysNoReturn program number box kept rows → Covers env (tree_of program) → IsWithin env assumed → Safe env (tree_of program) → AreOffPiece env f piece }
+{}
+
+/// No run of an entry fails at a site that an accepted table, whatever its states at loops are, doesn't list for its whole
+/// ranges, where the environment is within what is assumed.
+pub fn sites_left_out_dont_fail()
+    ensures { (program : Resolution) (number : ℕ) (assumed : Assumed) (rows : List Row) (site : NamedSite) (env : Environment) (name : Name) (params : List Param) (body : Body) (words : List ℤ) (answers : Answers) → IsResolution program → LeavesOut program number assumed rows site → slice_get (procs_of program) number ≡ Some (entry name params body) → FitParams params words → IsWithin env assumed → AreIn answers env → Run (tree_of program) name words answers (fail (record { proc = site.proc; number = site.index })) → ⊥ }
 {}

@@ -9,5 +9,5 @@ mod laws;
 pub use laws::{
     accepted_tables_are_sound, dead_bases_have_no_safe_environment, dead_entries_dont_return,
     dead_pieces_are_avoided, failing_sites_are_reached, provable_sites_dont_fail,
-    proved_programs_are_safe,
+    proved_programs_are_safe, sites_left_out_dont_fail, tables_avoid_pieces,
 };

@@ -1,0 +1,17 @@
+pub mod Boxing
+pub mod AboveBoxes
+pub mod Lists
+pub mod Cutting
+pub mod Adding
+pub mod Excluding
+pub mod Correct
+pub mod Bounds
+pub mod Entries
+pub mod Founding
+pub mod Shaping
+pub mod Showing
+pub mod Heading
+pub mod Seeking
+pub mod Finishing
+pub mod Placing
+pub mod Counting
