@@ -17,10 +17,10 @@ use Rattle.vmv_report.specs.Regressions.{ShowsRegression}
 use Rattle.vmv_report.specs.Texts.{report_text}
 use Rattle.vmv_command.specs.Lines.{SaysTooLong}
 use Rattle.vmv_command.specs.Faults.{SaysFault, fault_status, defect_status}
-use Rattle.vmv_command.specs.Reviews.{ReviewsPrograms, review_status}
+use Rattle.vmv_command.specs.Reviews.{ReviewsPrograms, review_status, too_large_line}
 use Rattle.vmv_command.specs.Command.{text_most, ReviewsTexts, OnFile, Does}
-use Rattle.vmv_command.specs.Regressions.{RegressionHolds}
-use Rattle.vmv_command.proofs.Verdict.{append_same, on_told, AskOnce}
+use Rattle.vmv_command.specs.Regressions.{BeginsWithRegression, RegressionHolds}
+use Rattle.vmv_command.proofs.Verdict.{append_same, begins_so, on_told, AskOnce}
 
 -- the text of a report with verdict 3 shows a regression
 abbrev pub RegressionsHold : Type 0
@@ -58,34 +58,38 @@ third false false false e = absurd (cc)
 verdict_is : (verdict : ℕ) → review_status verdict ≡ 2 → verdict ≡ 3
 verdict_is verdict e = eqb-true verdict 3 (third (verdict == 1) (verdict == 2) (verdict == 3) e)
 
-programs_show : RegressionsHold → (B R : List Item) (printed : List ℕ) (status : ℕ) → ReviewsPrograms B R printed status → status ≡ 2 → ShowsRegression B R printed
-programs_show law B R printed status h is =
-    let shows = law h.base_code h.revision_code h.report h.base_is.resolution h.revision_is.resolution h.report_is (verdict_is h.report.verdict (sym h.meant ∙ is)) in
-    subst (λ (P : List Item). ShowsRegression P R printed) h.base_is.tree
-    (subst (λ (P : List Item). ShowsRegression (tree_of h.base_code) P printed) h.revision_is.tree
-    (subst (λ (t : List ℕ). ShowsRegression (tree_of h.base_code) (tree_of h.revision_code) t) (sym h.text) shows))
+programs_show : RegressionsHold → (proved : Bool) (B R : List Item) (printed : List ℕ) (status : ℕ) → ReviewsPrograms proved B R printed status → status ≡ 2 → BeginsWithRegression B R printed
+programs_show law proved B R printed status h is =
+    ⊎_elim
+    (λ (front : (more : List ℕ) × (printed ≡ report_text h.report h.base_code h.revision_code ++ more) × (status ≡ review_status h.report.verdict)).
+    let text = report_text h.report h.base_code h.revision_code in
+    let shows = law h.base_code h.revision_code h.report h.base_is.resolution h.revision_is.resolution h.report_is (verdict_is h.report.verdict (sym front.2 ∙ is)) in
+    (text, front.0, front.1, subst (λ (P : List Item). ShowsRegression P R text) h.base_is.tree
+    (subst (λ (P : List Item). ShowsRegression (tree_of h.base_code) P text) h.revision_is.tree shows)))
+    (λ (large : (found : ℕ) × (printed ≡ too_large_line found) × (status ≡ 5)). let e = sym large.2 ∙ is in absurd (cc))
+    (begins_so proved h.base_code h.revision_code h.report printed status h.prints)
 
-texts_show : RegressionsHold → (base revision : List ℕ) (B R : List Item) (printed : List ℕ) (status : ℕ) → ReviewsTexts base revision printed status → IsText base B → IsText revision R →
-    status ≡ 2 → ShowsRegression B R printed
-texts_show law base revision B R printed status (inl (why, has, says)) text text' is = absurd (says_not (codes "base") why printed status says is)
-texts_show law base revision B R printed status (inr (C, source, (inl (why, has, says)))) text text' is = absurd (says_not (codes "revision") why printed status says is)
-texts_show law base revision B R printed status (inr (C, source, (inr (P, source', reviews)))) text text' is =
-    subst (λ (Q : List Item). ShowsRegression Q R printed) (text_once base C B source.0 text)
-    (subst (λ (Q : List Item). ShowsRegression C Q printed) (text_once revision P R source'.0 text') (programs_show law C P printed status reviews is))
+texts_show : RegressionsHold → (proved : Bool) (base revision : List ℕ) (B R : List Item) (printed : List ℕ) (status : ℕ) → ReviewsTexts proved base revision printed status → IsText base B → IsText revision R →
+    status ≡ 2 → BeginsWithRegression B R printed
+texts_show law proved base revision B R printed status (inl (why, has, says)) text text' is = absurd (says_not (codes "base") why printed status says is)
+texts_show law proved base revision B R printed status (inr (C, source, (inl (why, has, says)))) text text' is = absurd (says_not (codes "revision") why printed status says is)
+texts_show law proved base revision B R printed status (inr (C, source, (inr (P, source', reviews)))) text text' is =
+    subst (λ (Q : List Item). BeginsWithRegression Q R printed) (text_once base C B source.0 text)
+    (subst (λ (Q : List Item). BeginsWithRegression C Q printed) (text_once revision P R source'.0 text') (programs_show law proved C P printed status reviews is))
 
 long_not : (called printed : List ℕ) (status : ℕ) → SaysTooLong called text_most printed status → status ≡ 2 → ⊥
 long_not called printed status says is = let e = sym says.1 ∙ is in absurd (cc)
 
 files_show : RegressionsHold → (told : Word → Option (List ℕ)) (base_name revision_name base revision : List ℕ) (B R : List Item) (printed : List ℕ) (status count : ℕ) (proved : Bool) → told base_name ≡ Some base
-    → told revision_name ≡ Some revision → Does told (review base_name revision_name count proved) printed status → IsText base B → IsText revision R → status ≡ 2 → ShowsRegression B R printed
+    → told revision_name ≡ Some revision → Does told (review base_name revision_name count proved) printed status → IsText base B → IsText revision R → status ≡ 2 → BeginsWithRegression B R printed
 files_show law told base_name revision_name base revision B R printed status count proved told_b told_r done text text' is =
     ⊎_elim
     (λ (long : SaysTooLong (codes "base") text_most printed status). absurd (long_not (codes "base") printed status long is))
-    (λ (read : OnFile told revision_name (codes "revision") text_most (ReviewsTexts base) printed status). ⊎_elim
+    (λ (read : OnFile told revision_name (codes "revision") text_most (ReviewsTexts proved base) printed status). ⊎_elim
     (λ (long : SaysTooLong (codes "revision") text_most printed status). absurd (long_not (codes "revision") printed status long is))
-    (λ (both : ReviewsTexts base revision printed status). texts_show law base revision B R printed status both text text' is)
-    (on_told told revision_name (codes "revision") text_most (ReviewsTexts base) revision printed status told_r read))
-    (on_told told base_name (codes "base") text_most (λ b. OnFile told revision_name (codes "revision") text_most (ReviewsTexts b)) base printed status told_b done)
+    (λ (both : ReviewsTexts proved base revision printed status). texts_show law proved base revision B R printed status both text text' is)
+    (on_told told revision_name (codes "revision") text_most (ReviewsTexts proved base) revision printed status told_r read))
+    (on_told told base_name (codes "base") text_most (λ b. OnFile told revision_name (codes "revision") text_most (ReviewsTexts proved b)) base printed status told_b done)
 
 told_whole : (before after : Option (List ℕ)) (old printed text : List ℕ) → before ≡ Some old → after ≡ Some (old ++ printed) → Appended before text after → printed ≡ text
 told_whole before after old printed text was is h =
@@ -98,7 +102,7 @@ regression_holds : RegressionsHold → AskOnce → (request : Request) (words : 
 regression_holds law once request words told before after text status asks done taken b r base revision old printed B R (count, proved, asks') told_b told_r text_b text_r was is status_is =
     let same : request ≡ review b r count proved = once words request (review b r count proved) asks asks' in
     let whole = told_whole before after old printed text was is (taken status_is) in
-    subst (λ (t : List ℕ). ShowsRegression B R t) (sym whole)
+    subst (λ (t : List ℕ). BeginsWithRegression B R t) (sym whole)
     (files_show law told b r base revision B R text status count proved told_b told_r (subst (λ (q : Request). Does told q text status) same done) text_b text_r status_is)
 
 -- whether or not all of it was printed

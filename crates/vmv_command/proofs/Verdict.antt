@@ -14,7 +14,8 @@ use Rattle.vmv_words.specs.Words.{Word, Request, review, Asks}
 use Rattle.vmv_report.specs.declared.report.Report.{Report}
 use Rattle.vmv_report.specs.Texts.{line, report_text}
 use Rattle.vmv_report.specs.Reports.{IsReport}
-use Rattle.vmv_command.specs.Reviews.{ReviewsPrograms}
+use Rattle.vmv_proof_text.specs.Text.{proof_text}
+use Rattle.vmv_command.specs.Reviews.{ReviewsPrograms, PrintsReview, too_large_line, review_status}
 use Rattle.vmv_command.specs.Lines.{SaysTooLong, too_long_end}
 use Rattle.vmv_command.specs.Faults.{fault_end}
 use Rattle.vmv_command.specs.Command.{text_most, ReviewsTexts, OnFile, Does, SaysRelativelyCorrect, VerdictHolds}
@@ -46,19 +47,34 @@ pub record VerdictsHold : Type 0 where
   pub holds : (base revision : Resolution) (report : Report) → IsResolution base → IsResolution revision → IsReport base revision report → report.verdict ≡ 1 → RelCorrect (tree_of base) (tree_of revision)
   pub said : (base revision : Resolution) (report : Report) (more : List ℕ) → IsReport base revision report → SaysRelativelyCorrect (report_text report base revision ++ more) → report.verdict ≡ 1
 
-programs_correct : VerdictsHold → (B R : List Item) (printed : List ℕ) (status : ℕ) → ReviewsPrograms B R printed status → SaysRelativelyCorrect printed → RelCorrect B R
-programs_correct law B R printed status h said =
-    let verdict = law.said h.base_code h.revision_code h.report [] h.report_is (subst SaysRelativelyCorrect (h.text ∙ sym (append-nil (report_text h.report h.base_code h.revision_code))) said) in
-    let correct = law.holds h.base_code h.revision_code h.report h.base_is.resolution h.revision_is.resolution h.report_is verdict in
-    subst (λ (P : List Item). RelCorrect P R) h.base_is.tree (subst (λ (P : List Item). RelCorrect (tree_of h.base_code) P) h.revision_is.tree correct)
+-- what is printed of a review begins with its report, or tells that its proof is too long
+pub begins_so : (proved : Bool) (B R : Resolution) (report : Report) (printed : List ℕ) (status : ℕ) → PrintsReview proved B R report printed status
+    → ((more : List ℕ) × (printed ≡ report_text report B R ++ more) × (status ≡ review_status report.verdict)) ⊎ ((found : ℕ) × (printed ≡ too_large_line found) × (status ≡ 5))
+begins_so false B R report printed status h = inl ([], h.0 ∙ sym (append-nil (report_text report B R)), h.1)
+begins_so true B R report printed status (inl (four, h)) = inl ([], h.0 ∙ sym (append-nil (report_text report B R)), h.1)
+begins_so true B R report printed status (inr (other, proof, is, (inl (within, text, meant)))) = inl (proof_text proof, text, meant)
+begins_so true B R report printed status (inr (other, proof, is, (inr (found, over, text, meant)))) = inr (found, text, meant)
 
-texts_correct : VerdictsHold → (base revision : List ℕ) (B R : List Item) (printed : List ℕ) (status : ℕ) → ReviewsTexts base revision printed status → IsText base B → IsText revision R →
+too_large_not_said : (found : ℕ) (printed : List ℕ) → printed ≡ too_large_line found → SaysRelativelyCorrect printed → ⊥
+too_large_not_said found printed is said = not_said (too_large_line found) printed is refl said
+
+programs_correct : VerdictsHold → (proved : Bool) (B R : List Item) (printed : List ℕ) (status : ℕ) → ReviewsPrograms proved B R printed status → SaysRelativelyCorrect printed → RelCorrect B R
+programs_correct law proved B R printed status h said =
+    ⊎_elim
+    (λ (front : (more : List ℕ) × (printed ≡ report_text h.report h.base_code h.revision_code ++ more) × (status ≡ review_status h.report.verdict)).
+    let verdict = law.said h.base_code h.revision_code h.report front.0 h.report_is (subst SaysRelativelyCorrect front.1 said) in
+    let correct = law.holds h.base_code h.revision_code h.report h.base_is.resolution h.revision_is.resolution h.report_is verdict in
+    subst (λ (P : List Item). RelCorrect P R) h.base_is.tree (subst (λ (P : List Item). RelCorrect (tree_of h.base_code) P) h.revision_is.tree correct))
+    (λ (large : (found : ℕ) × (printed ≡ too_large_line found) × (status ≡ 5)). absurd (too_large_not_said large.0 printed large.1 said))
+    (begins_so proved h.base_code h.revision_code h.report printed status h.prints)
+
+texts_correct : VerdictsHold → (proved : Bool) (base revision : List ℕ) (B R : List Item) (printed : List ℕ) (status : ℕ) → ReviewsTexts proved base revision printed status → IsText base B → IsText revision R →
     SaysRelativelyCorrect printed → RelCorrect B R
-texts_correct law base revision B R printed status (inl (why, has, says)) text text' said = absurd (base_not_said (fault_end why) printed says.0 said)
-texts_correct law base revision B R printed status (inr (C, source, (inl (why, has, says)))) text text' said = absurd (revision_not_said (fault_end why) printed says.0 said)
-texts_correct law base revision B R printed status (inr (C, source, (inr (P, source', reviews)))) text text' said =
+texts_correct law proved base revision B R printed status (inl (why, has, says)) text text' said = absurd (base_not_said (fault_end why) printed says.0 said)
+texts_correct law proved base revision B R printed status (inr (C, source, (inl (why, has, says)))) text text' said = absurd (revision_not_said (fault_end why) printed says.0 said)
+texts_correct law proved base revision B R printed status (inr (C, source, (inr (P, source', reviews)))) text text' said =
     subst (λ (Q : List Item). RelCorrect Q R) (text_once base C B source.0 text)
-    (subst (λ (Q : List Item). RelCorrect C Q) (text_once revision P R source'.0 text') (programs_correct law C P printed status reviews said))
+    (subst (λ (Q : List Item). RelCorrect C Q) (text_once revision P R source'.0 text') (programs_correct law proved C P printed status reviews said))
 
 -- of a text that is told, what is done with it, or the line of one that is too long
 pub on_told : (told : Word → Option (List ℕ)) (name called : List ℕ) (most : ℕ) (Next : List ℕ → List ℕ → ℕ → Type 0) (text printed : List ℕ) (status : ℕ) → told name ≡ Some text
@@ -72,11 +88,11 @@ files_correct : VerdictsHold → (told : Word → Option (List ℕ)) (base_name 
 files_correct law told base_name revision_name base revision B R printed status count proved told_b told_r done text text' said =
     ⊎_elim
     (λ (long : SaysTooLong (codes "base") text_most printed status). absurd (base_not_said (too_long_end text_most) printed long.0 said))
-    (λ (read : OnFile told revision_name (codes "revision") text_most (ReviewsTexts base) printed status). ⊎_elim
+    (λ (read : OnFile told revision_name (codes "revision") text_most (ReviewsTexts proved base) printed status). ⊎_elim
     (λ (long : SaysTooLong (codes "revision") text_most printed status). absurd (revision_not_said (too_long_end text_most) printed long.0 said))
-    (λ (both : ReviewsTexts base revision printed status). texts_correct law base revision B R printed status both text text' said)
-    (on_told told revision_name (codes "revision") text_most (ReviewsTexts base) revision printed status told_r read))
-    (on_told told base_name (codes "base") text_most (λ b. OnFile told revision_name (codes "revision") text_most (ReviewsTexts b)) base printed status told_b done)
+    (λ (both : ReviewsTexts proved base revision printed status). texts_correct law proved base revision B R printed status both text text' said)
+    (on_told told revision_name (codes "revision") text_most (ReviewsTexts proved base) revision printed status told_r read))
+    (on_told told base_name (codes "base") text_most (λ b. OnFile told revision_name (codes "revision") text_most (ReviewsTexts proved b)) base printed status told_b done)
 
 -- what was printed is a front of the text
 abbrev pub IsFront : List ℕ → List ℕ → Type 0

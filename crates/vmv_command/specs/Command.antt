@@ -28,14 +28,14 @@ OnFile told name called most Next printed status =
     × MatchBool (nat_lt most (length text)) (SaysTooLong called most printed status) (Next text printed status)
 
 -- the review of two texts: the line of the first fault of the base, or else of the revision, or else the review of their programs
-abbrev pub ReviewsTexts : (base revision : List ℕ) → List ℕ → ℕ → Type 0
-ReviewsTexts base revision printed status =
-    OnProgram (codes "base") base (λ B. OnProgram (codes "revision") revision (ReviewsPrograms B)) printed status
+abbrev pub ReviewsTexts : Bool → (base revision : List ℕ) → List ℕ → ℕ → Type 0
+ReviewsTexts proved base revision printed status =
+    OnProgram (codes "base") base (λ B. OnProgram (codes "revision") revision (ReviewsPrograms proved B)) printed status
 
 -- what is asked for, over what a shelf tells; all texts are read before any is looked at
 abbrev pub Does : (Word → Option (List ℕ)) → Request → List ℕ → ℕ → Type 0
 Does told (review base revision count proved) printed status =
-    OnFile told base (codes "base") text_most (λ b. OnFile told revision (codes "revision") text_most (ReviewsTexts b)) printed status
+    OnFile told base (codes "base") text_most (λ b. OnFile told revision (codes "revision") text_most (ReviewsTexts proved b)) printed status
 Does told (baseline base count) printed status = OnFile told base (codes "base") text_most (λ b. OnProgram (codes "base") b BaselinesProgram) printed status
 Does told (recheck base revision proof) printed status = IsLine usage 9 printed status
 Does told (replay revision witness) printed status =

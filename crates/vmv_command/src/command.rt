@@ -26,7 +26,12 @@ fn output_of<F: Shelf>(alloc: Global, shelf: &mut F, request: &Request) -> Resul
     ensures stands { ¬ (IsErrOf result Stop.Failed) → F.fault_count shelf.new ≡ F.fault_count shelf.old }
 {
     match request {
-        Request::Review { base, revision, .. } => review_files(alloc, shelf, *base, *revision),
+        Request::Review {
+            base,
+            revision,
+            proof,
+            ..
+        } => review_files(alloc, shelf, *base, *revision, *proof),
         Request::Baseline { base, .. } => baseline_file(alloc, shelf, *base),
         Request::Recheck { .. } => Ok(Output::of(alloc, USAGE, 9)?),
         Request::Replay { revision, witness } => replay_files(alloc, shelf, *revision, *witness),

@@ -1,8 +1,10 @@
-ghost use Rattle.std.specs.Prelude.{◌≡◌, codes, IfOk, IsErrOf};
+ghost use Rattle.std.specs.Prelude.{◌≡◌, ◌++◌, codes, true, false, IfOk, IsErrOf};
 ghost use Rattle.vmv_edge.specs.Outside.{Rose};
 ghost use Rattle.vmv_snapshot.specs.Resolution.{tree_of};
 ghost use Rattle.vmv_command.specs.Command.{text_most, OnFile, ReviewsTexts};
-ghost use Rattle.vmv_command.specs.Reviews.{review_status, ReviewsPrograms};
+ghost use Rattle.vmv_review_proof.specs.Proofs.{HasConditions};
+ghost use Rattle.vmv_command.specs.Reviews.{review_status, too_large_line, ReviewsPrograms};
+ghost use Rattle.vmv_command.specs.Work.{ReviewsBase};
 
 use crate::faults::fault_output;
 use crate::files::{read_text, too_long};
@@ -11,7 +13,10 @@ use crate::{TEXT_MOST, TEXT_MOST_BYTES};
 use std::alloc::{AllocError, Global};
 use std::sync::Arc;
 use vmv_edge::{Shelf, Text};
-use vmv_report::{baseline, judge, text_of};
+use vmv_need::Needed;
+use vmv_proof_text::write_proof;
+use vmv_report::{Baseline, baseline, judge, text_of};
+use vmv_review_proof::{Judged, ProofStop, is_within_limit, judge_with_proof};
 use vmv_snapshot::Snapshot;
 use vmv_source::parse;
 
@@ -26,13 +31,15 @@ fn status_of(verdict: u8) -> u8
     }
 }
 
-// The output of the review of a revision against a base.
-fn review_programs(alloc: Global, base: Snapshot, revision: &Snapshot) -> Result<Output, AllocError>
-    ensures { IfOk result (λ output. ReviewsPrograms (tree_of base) (tree_of revision.now) output.text output.status) }
+// The output of a review without its proof.
+fn report_output(
+    alloc: Global,
+    found: &Baseline,
+    revision: &Snapshot,
+) -> Result<Output, AllocError>
+    ensures { IfOk result (λ output. ReviewsBase false found.now revision.now output.text output.status) }
 {
-    let found = baseline(alloc, Arc::new(alloc, base)?)?;
-    let report = judge(alloc, &found, revision)?;
-    let _revision = revision.program();
+    let report = judge(alloc, found, revision)?;
     let text = text_of(alloc, &report, found.base(), revision)?;
     Ok(Output {
         text,
@@ -40,9 +47,85 @@ fn review_programs(alloc: Global, base: Snapshot, revision: &Snapshot) -> Result
     })
 }
 
+// The text of a report with that of its proof behind it.
+fn both_texts(alloc: Global, report: &Text, proof: &Text) -> Result<Text, AllocError>
+    ensures { IfOk result (λ text. text ≡ report.now ++ proof.now) }
+{
+    let mut text = Vec::from_slice(alloc, report.bytes())?;
+    text.extend_from_slice(proof.bytes())?;
+    Ok(Text::from_vec(text))
+}
+
+// The line of a proof that is too long to be printed.
+fn too_large(alloc: Global, found: usize) -> Result<Output, AllocError>
+    ensures { IfOk result (λ output. (output.text ≡ too_large_line found) × (output.status ≡ 5)) }
+{
+    let line = format!(in alloc; "proof: limit bytes found {found} most 67108864\n")?;
+    Output::of(alloc, line.as_bytes(), 5)
+}
+
+// The output of a review with its proof, of a base that isn't vacuous.
+fn proved_output(
+    alloc: Global,
+    found: &Baseline,
+    revision: &Snapshot,
+) -> Result<Output, AllocError>
+    requires { HasConditions found.now.needed }
+    ensures { IfOk result (λ output. ReviewsBase true found.now revision.now output.text output.status) }
+{
+    let Judged { report, proof } = judge_with_proof(alloc, found, revision)?;
+    match is_within_limit(alloc, &proof) {
+        Ok(()) => {
+            let report_text = text_of(alloc, &report, found.base(), revision)?;
+            let proof_text = write_proof(alloc, &proof)?;
+            Ok(Output {
+                text: both_texts(alloc, &report_text, &proof_text)?,
+                status: status_of(report.verdict),
+            })
+        }
+        Err(ProofStop::TooLarge { found }) => too_large(alloc, found),
+        Err(ProofStop::Memory) => Err(AllocError),
+    }
+}
+
+// The output of a review, with its proof where that is asked for and the base isn't vacuous.
+fn output_by(
+    alloc: Global,
+    found: &Baseline,
+    revision: &Snapshot,
+    proved: bool,
+) -> Result<Output, AllocError>
+    ensures { IfOk result (λ output. ReviewsBase proved found.now revision.now output.text output.status) }
+{
+    match found.needed() {
+        Needed::Conditions { .. } if proved => proved_output(alloc, found, revision),
+        _ => report_output(alloc, found, revision),
+    }
+}
+
+// The output of the review of a revision against a base.
+fn review_programs(
+    alloc: Global,
+    base: Snapshot,
+    revision: &Snapshot,
+    proved: bool,
+) -> Result<Output, AllocError>
+    ensures { IfOk result (λ output. ReviewsPrograms proved (tree_of base) (tree_of revision.now) output.text output.status) }
+{
+    let found = baseline(alloc, Arc::new(alloc, base)?)?;
+    let _revision = revision.program();
+    let _base = found.base();
+    output_by(alloc, &found, revision, proved)
+}
+
 // The review of two texts.
-fn review_texts(alloc: Global, base: &Text, revision: &Text) -> Result<Output, AllocError>
-    ensures { IfOk result (λ output. ReviewsTexts base.now revision.now output.text output.status) }
+fn review_texts(
+    alloc: Global,
+    base: &Text,
+    revision: &Text,
+    proved: bool,
+) -> Result<Output, AllocError>
+    ensures { IfOk result (λ output. ReviewsTexts proved base.now revision.now output.text output.status) }
 {
     let base = match parse(alloc, base.bytes()) {
         Ok(base) => base,
@@ -52,17 +135,18 @@ fn review_texts(alloc: Global, base: &Text, revision: &Text) -> Result<Output, A
         Ok(revision) => revision,
         Err(fault) => return fault_output(alloc, "revision", fault),
     };
-    review_programs(alloc, base, &revision)
+    review_programs(alloc, base, &revision, proved)
 }
 
-/// The review of the texts under two names.
+/// The review of the texts under two names, with its proof where that is asked for.
 pub(crate) fn review_files<F: Shelf>(
     alloc: Global,
     shelf: &mut F,
     base: &str,
     revision: &str,
+    proved: bool,
 ) -> Result<Output, Stop>
-    ensures output { IfOk result (λ output. OnFile (F.told shelf.old) base.now (codes "base") text_most (λ b. OnFile (F.told shelf.old) revision.now (codes "revision") text_most (ReviewsTexts b)) output.text output.status) }
+    ensures output { IfOk result (λ output. OnFile (F.told shelf.old) base.now (codes "base") text_most (λ b. OnFile (F.told shelf.old) revision.now (codes "revision") text_most (ReviewsTexts proved b)) output.text output.status) }
     ensures failed { IsErrOf result Stop.Failed → Rose (F.fault_count shelf.old) (F.fault_count shelf.new) }
     ensures stands { ¬ (IsErrOf result Stop.Failed) → F.fault_count shelf.new ≡ F.fault_count shelf.old }
 {
@@ -72,5 +156,5 @@ pub(crate) fn review_files<F: Shelf>(
     let Some(revision) = read_text(alloc, shelf, revision, TEXT_MOST_BYTES)? else {
         return Ok(too_long(alloc, "revision", TEXT_MOST)?);
     };
-    Ok(review_texts(alloc, &base, &revision)?)
+    Ok(review_texts(alloc, &base, &revision, proved)?)
 }
