@@ -32,7 +32,7 @@ abbrev pub ReviewsTexts : Bool → (base revision : List ℕ) → List ℕ → �
 ReviewsTexts proved base revision printed status =
     OnProgram (codes "base") base (λ B. OnProgram (codes "revision") revision (ReviewsPrograms proved B)) printed status
 
--- what is asked for, over what a shelf tells; all texts are read before any is looked at
+-- what is asked for, over what a shelf tells; all texts are read before any is looked at. The check of a proof isn't done yet.
 abbrev pub Does : (Word → Option (List ℕ)) → Request → List ℕ → ℕ → Type 0
 Does told (review base revision count proved) printed status =
     OnFile told base (codes "base") text_most (λ b. OnFile told revision (codes "revision") text_most (ReviewsTexts proved b)) printed status
