@@ -4,8 +4,8 @@ use vmv_cases::Sheet;
 use vmv_print::{print, print_program};
 use vmv_snapshot::Snapshot;
 use vmv_source::parse;
-use vmv_text::read_program;
-use vmv_tree::{Name, Program};
+use vmv_text::{Parsed, read_program};
+use vmv_tree::{DeepProgram, Name, Program};
 
 /// `? name`: the bytes of the name that these are, or `no name`.
 pub fn name(bytes: &[u8], sheet: &mut Sheet) {
@@ -15,10 +15,35 @@ pub fn name(bytes: &[u8], sheet: &mut Sheet) {
     }
 }
 
-/// The program of a text. Where it has none, the fault is written.
+/// Writes what is told of a program without a tree: how many items it has of each kind, how many of all stand above the
+/// procedure that is too deep, and how large that one is.
+fn put_deep(told: &DeepProgram, sheet: &mut Sheet) {
+    sheet.put(b"deep: items ");
+    sheet.show(&told.counts.outsides);
+    sheet.put(b" ");
+    sheet.show(&told.counts.helpers);
+    sheet.put(b" ");
+    sheet.show(&told.counts.entries);
+    sheet.put(b", above ");
+    sheet.show(&told.above.as_slice().len());
+    sheet.put(b", variables ");
+    sheet.show(&told.deep.variables);
+    sheet.put(b", statements ");
+    sheet.show(&told.deep.statements);
+    sheet.put(b", nesting ");
+    sheet.show(&told.deep.nesting);
+    sheet.put(b", ");
+    sheet.line(told.deep.name.bytes());
+}
+
+/// The program of a text. Where it has no tree, what is told of it is written, or the fault.
 pub fn program_of(alloc: Global, text: &[u8], sheet: &mut Sheet) -> Option<Program> {
     match read_program(alloc, text) {
-        Ok(program) => Some(program),
+        Ok(Parsed::Whole(program)) => Some(program),
+        Ok(Parsed::Deep(told)) => {
+            put_deep(&told, sheet);
+            None
+        }
         Err(fault) => {
             put_read_fault(fault, sheet);
             None

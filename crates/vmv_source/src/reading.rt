@@ -7,10 +7,11 @@ ghost use Rattle.vmv_snapshot.specs.Resolution.{tree_of};
 ghost use Rattle.vmv_source.specs.Faults.{HasDefectAt, IsTextFault};
 
 use crate::fault::TextFault;
-use std::alloc::Global;
+use std::alloc::{AllocError, Global};
 use vmv_snapshot::{NewFault, Snapshot};
-use vmv_text::{mention_place, read_program};
+use vmv_text::{Parsed, mention_place, read_program};
 use vmv_tree::Defect;
+use vmv_valid::first_defect_of_deep;
 
 /// The fault of a text whose program has this first defect.
 fn defect_in(text: &[u8], mention: u32, defect: Defect) -> TextFault
@@ -41,13 +42,16 @@ pub fn parse(alloc: Global, text: &[u8]) -> Result<Snapshot, TextFault>
     ensures too_long { 1048576 < length text.now → result ≡ Err (TextFault.TooLong (length text.now)) }
     ensures not_utf8 { length text.now ≤ 1048576 → (at : ℕ) → IsValidUpTo text.now at → result ≡ Err (TextFault.NotUtf8 at) }
 {
-    let program = match read_program(alloc, text) {
-        Ok(program) => program,
-        Err(fault) => return Err(TextFault::of_reading(fault)),
-    };
-    match Snapshot::new(alloc, program) {
-        Ok(snapshot) => Ok(snapshot),
-        Err(NewFault::Defect { mention, defect }) => Err(defect_in(text, mention, defect)),
-        Err(NewFault::Memory) => Err(TextFault::Memory),
+    match read_program(alloc, text) {
+        Ok(Parsed::Whole(program)) => match Snapshot::new(alloc, program) {
+            Ok(snapshot) => Ok(snapshot),
+            Err(NewFault::Defect { mention, defect }) => Err(defect_in(text, mention, defect)),
+            Err(NewFault::Memory) => Err(TextFault::Memory),
+        },
+        Ok(Parsed::Deep(told)) => match first_defect_of_deep(alloc, &told) {
+            Ok(found) => Err(defect_in(text, found.mention, found.defect)),
+            Err(AllocError) => Err(TextFault::Memory),
+        },
+        Err(fault) => Err(TextFault::of_reading(fault)),
     }
 }

@@ -222,7 +222,7 @@ NoElseAfter (assert test) r = Unit {0}
 NoElseAfter (choose test first second) r = NoElse r
 NoElseAfter (repeat index bound most body) r = Unit {0}
 
-no_else_after : (s : Stmt) (r : List Token) → NoElse r → NoElseAfter s r
+pub no_else_after : (s : Stmt) (r : List Token) → NoElse r → NoElseAfter s r
 no_else_after (copy to from) r f = tt
 no_else_after (compute to op left right) r f = tt
 no_else_after (call to callee args) r f = tt

@@ -5,7 +5,7 @@ use Rattle.vmv_text.specs.declared.fault.Fault.{Fault}
 use Rattle.vmv_text.specs.declared.fault.Fault.TheVariants.{Syntax, Memory}
 use Rattle.vmv_text.specs.Tokens.{Placed, tokens_of}
 use Rattle.vmv_text.specs.Grammar.{Takes}
-use Rattle.vmv_text.specs.Reading.{Meets, Any, Lacks, Ends, Stops, ReadsAs, IsToken, Tests, first_of}
+use Rattle.vmv_text.specs.Reading.{Meets, Any, Lacks, Ends, Stops, Fails, ReadsAs, ReadsWith, IsToken, Tests, first_of}
 
 -- a part, and then another
 pub record Then {A B : Type 0} (f : A → Takes) (g : B → Takes) (both : A × B) (ts rest : List Token) : Type 0 where
@@ -237,3 +237,21 @@ pub shorter_behind : {V X : Type 0} (view : V → X) (f : X → Takes) (fits : L
 shorter_behind view f fits (Ok x) t [] mid new h e r = absurd (cc h)
 shorter_behind view f fits (Ok x) t (p ∷ old) mid new h e r = omega (arith, ap length e, ends_within f fits (view x) mid new r)
 shorter_behind view f fits (Err fault) t old mid new h e r = tt
+
+-- the same for a part of which an answer says something
+pub carried_with : {X V : Type 0} (says : V → X → Type 0) (f a : X → Takes) (fits : List Token → Type 0) (result : Result V Fault) (old now new : List Placed)
+    → Along f fits (λ (x : X). x) old a now → ReadsWith says a fits result now new → ReadsWith says f fits result old new
+carried_with {X} says f a fits (Ok v) old now new h e = (e.0, e.1, done f a fits (λ (x : X). x) e.0 old now new h e.2)
+carried_with {X} says f a fits (Err Syntax) old now new h e = stopped f a fits (λ (x : X). x) old now new h e
+carried_with says f a fits (Err Memory) old now new h e = tt
+
+pub shorter_with : {V X : Type 0} (says : V → X → Type 0) (f : X → Takes) (fits : List Token → Type 0) (result : Result V Fault) (t : Token) (old mid new : List Placed)
+    → first_of old ≡ Some t → mid ≡ drop 1 old → ReadsWith says f fits result mid new → OnOk result (length new < length old)
+shorter_with says f fits (Ok v) t [] mid new h e r = absurd (cc h)
+shorter_with says f fits (Ok v) t (p ∷ old) mid new h e r = omega (arith, ap length e, ends_within f fits r.0 mid new r.2)
+shorter_with says f fits (Err fault) t old mid new h e r = tt
+
+-- an answer of the last part that is left
+pub closed_with : {X A V W : Type 0} (f : X → Takes) (a : A → Takes) (fits : List Token → Type 0) (build : A → X) (says : V → A → Type 0) (says' : W → X → Type 0) (v : V) (w : W) (old now new : List Placed)
+    → Along f fits build old a now → ReadsWith says a fits (Ok v) now new → ((x : A) → says v x → says' w (build x)) → ReadsWith says' f fits (Ok w) old new
+closed_with f a fits build says says' v w old now new h e s = (build e.0, s e.0 e.1, done f a fits build e.0 old now new h e.2)

@@ -4,3 +4,6 @@ pub mod Faults
 pub mod Symbols
 pub mod Reading
 pub mod Mentioned
+pub mod Sizes
+pub mod Pieces
+pub mod Parts

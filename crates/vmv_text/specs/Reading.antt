@@ -4,9 +4,9 @@ use Rattle.vmv_tree.specs.declared.name.Name.{Name}
 use Rattle.vmv_tree.specs.declared.tree.Op.{Op}
 use Rattle.vmv_tree.specs.declared.tree.Operand.{Operand}
 use Rattle.vmv_tree.specs.declared.tree.Rel.{Rel}
-use Rattle.vmv_tree.specs.Tree.{Stmt, copy, compute, Block, [], Item}
+use Rattle.vmv_tree.specs.Tree.{Stmt, copy, compute, Block, [], ◌⨾◌, Item}
 use Rattle.vmv_text.specs.declared.token.Token.{Token}
-use Rattle.vmv_text.specs.declared.token.Token.TheVariants.{Named, Number, Edge, Equals, ElseWord, VarWord, OpenParen, CloseParen, Semicolon}
+use Rattle.vmv_text.specs.declared.token.Token.TheVariants.{Named, Number, Edge, Equals, ElseWord, ToWord, CapWord, VarWord, OpenParen, CloseParen, Semicolon}
 use Rattle.vmv_text.specs.declared.fault.Fault.{Fault}
 use Rattle.vmv_text.specs.declared.fault.Fault.TheVariants.{Syntax, Memory}
 use Rattle.vmv_text.specs.Tokens.{Placed, placed_tokens, tokens_of}
@@ -48,11 +48,20 @@ pub record Stops {X : Type 0} (part : X → Takes) (fits : List Token → Type 0
   pub goes_on : (rest : List Token) → part some (tokens_of used ++ (more ++ rest)) rest
   pub shut : (y : X) (us rest : List Token) → Meets new us → fits rest → part y (tokens_of used ++ us) rest → ⊥
 
--- a part, which view shows, was taken, or none begins so and what is left begins where none goes on; or memory ran out
+-- no part begins so, and what is left begins where none goes on; or memory ran out
+abbrev pub Fails : {X : Type 0} → (X → Takes) → (List Token → Type 0) → Fault → (old new : List Placed) → Type 0
+Fails part fits Syntax old new = Stops part fits old new
+Fails part fits Memory old new = Unit {0}
+
+-- a part, which view shows, was taken, or reading it failed
 abbrev pub ReadsAs : {A X : Type 0} → (A → X) → (X → Takes) → (List Token → Type 0) → Result A Fault → (old new : List Placed) → Type 0
 ReadsAs view part fits (Ok x) old new = Ends part fits (view x) old new
-ReadsAs view part fits (Err Syntax) old new = Stops part fits old new
-ReadsAs view part fits (Err Memory) old new = Unit {0}
+ReadsAs view part fits (Err fault) old new = Fails part fits fault old new
+
+-- the same where what is answered says only this of the part
+abbrev pub ReadsWith : {A X : Type 0} → (A → X → Type 0) → (X → Takes) → (List Token → Type 0) → Result A Fault → (old new : List Placed) → Type 0
+ReadsWith {X = X} says part fits (Ok a) old new = (x : X) × says a x × Ends part fits x old new
+ReadsWith says part fits (Err fault) old new = Fails part fits fault old new
 
 -- the same for a part that is its own view, and that anything may follow
 abbrev pub Reads : {X : Type 0} → (X → Takes) → Result X Fault → (old new : List Placed) → Type 0
@@ -149,6 +158,16 @@ StmtsTo last block ts rest = AreStmts block ts (last ∷ rest)
 abbrev pub IsBlock : Block → Takes
 IsBlock block = Braces (AreStmts block)
 
+-- a block with these statements in front
+abbrev pub before : Block → Block → Block
+before [] c = c
+before (s ⨾ b) c = s ⨾ before b c
+
+-- what a loop has behind its word, up to its body: the index, the bound and the cap
+abbrev pub IsTurns : Name × (Operand × ℤ) → Takes
+IsTurns turns ts rest =
+    (mid : List Token) × (n : ℕ) × (ts ≡ Named turns.0 ∷ ToWord ∷ mid) × IsOperand turns.1.0 mid (CapWord ∷ Number n ∷ rest) × (turns.1.1 ≡ pos n)
+
 -- "else" block, or nothing
 abbrev pub IsElse : Block → Takes
 IsElse second back rest = ((second ≡ []) × (back ≡ rest)) ⊎ ((last : List Token) × (back ≡ ElseWord ∷ last) × IsBlock second last rest)
@@ -166,8 +185,8 @@ pub record ProgramStops (old new : List Placed) : Type 0 where
   pub goes_on : IsProgram program (tokens_of used ++ more)
   pub shut : (items : List Item) (us : List Token) → Meets new us → IsProgram items (tokens_of used ++ us) → ⊥
 
--- items up to the end, or the place of the fault; or memory ran out
-abbrev pub ReadsProgram : {A : Type 0} → (A → List Item) → Result A Fault → (old new : List Placed) → Type 0
-ReadsProgram view (Ok x) old new = IsProgram (view x) (tokens_of old)
-ReadsProgram view (Err Syntax) old new = ProgramStops old new
-ReadsProgram view (Err Memory) old new = Unit {0}
+-- items up to the end, of which the answer says this, or the place of the fault; or memory ran out
+abbrev pub ReadsProgram : {A : Type 0} → (A → List Item → Type 0) → Result A Fault → (old new : List Placed) → Type 0
+ReadsProgram says (Ok x) old new = (items : List Item) × says x items × IsProgram items (tokens_of old)
+ReadsProgram says (Err Syntax) old new = ProgramStops old new
+ReadsProgram says (Err Memory) old new = Unit {0}

@@ -2,12 +2,14 @@ ghost use Rattle.std.specs.Prelude.{◌≡◌, ℕ, pos, MatchOption};
 ghost use Rattle.vmv_tree.specs.declared.name.Name.{Name};
 ghost use Rattle.vmv_tree.specs.declared.tree.Op.{Op};
 ghost use Rattle.vmv_tree.specs.declared.tree.Rel.{Rel};
-ghost use Rattle.vmv_text.specs.declared.token.Token.TheVariants.{Named, Number};
+ghost use Rattle.vmv_text.specs.declared.token.Token.TheVariants.{Named, Number, IfWord};
 ghost use Rattle.vmv_text.specs.Grammar.{IsName, IsLit, IsOperand, IsTest, op_token, rel_token};
-ghost use Rattle.vmv_text.specs.Reading.{Reads, IsOp, IsRel, IsSmall, IsNegative, IsNoSize, IsSizeOf};
+ghost use Rattle.vmv_text.specs.Reading.{Reads, ReadsWith, Any, IsOp, IsRel, IsSmall, IsNegative, IsNoSize, IsSizeOf};
+ghost use Rattle.vmv_text.specs.Pieces.{IsPieceBehind, DoesOpen};
 
 use crate::cursor::Cursor;
 use crate::fault::Fault;
+use crate::flat::Opens;
 use crate::symbol::Symbol;
 use crate::token::Token;
 use vmv_tree::{Name, Op, Operand, Rel, Test};
@@ -153,5 +155,16 @@ impl Cursor<'_> {
         let rel = self.rel()?;
         let right = self.operand()?;
         Ok(Test { left, rel, right })
+    }
+
+    /// What an `if` has behind its word, up to its first block.
+    pub(crate) fn choice_front(&mut self) -> Result<Opens, Fault>
+        ensures { ReadsWith DoesOpen (IsPieceBehind IfWord) Any result self.old self.new }
+    {
+        if let Err(fault) = self.test() {
+            return Err(fault);
+        }
+        self.expect(Symbol::OpenBrace)?;
+        Ok(Opens::Choice)
     }
 }

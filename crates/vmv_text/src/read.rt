@@ -1,16 +1,16 @@
-ghost use Rattle.std.specs.Prelude.{◌≡◌, ℕ, ◌<◌, ◌≤◌, ◌-◌, length, take, Result, Err, IfOk, IfErr};
+ghost use Rattle.std.specs.Prelude.{◌≡◌, ℕ, ◌<◌, ◌≤◌, ◌-◌, List, length, take, Result, Err, IfOk, IfErr};
 ghost use Rattle.std.specs.Str.{IsUtf8, IsValidUpTo};
-ghost use Rattle.vmv_tree.specs.View.{program_of};
+ghost use Rattle.vmv_tree.specs.Tree.{Item};
 ghost use Rattle.vmv_text.specs.Grammar.{IsText};
 ghost use Rattle.vmv_text.specs.Tokens.{placed_tokens};
 ghost use Rattle.vmv_text.specs.Faults.{line_after, column_after, IsPlace, IsReadFault};
-ghost use Rattle.vmv_text.specs.Reading.{ReadsProgram};
+ghost use Rattle.vmv_text.specs.Parts.{IsParsed};
 
 use crate::cursor::Cursor;
 use crate::fault::{Fault, ReadFault};
+use crate::item_part::Parsed;
 use std::alloc::Global;
 use std::str;
-use vmv_tree::Program;
 
 /// The most bytes of a text.
 pub const MOST_BYTES: usize = 1_048_576;
@@ -53,27 +53,27 @@ fn fault_at(text: &[u8], left: usize) -> ReadFault
 }
 
 /// The program of a short text of UTF-8.
-fn read_items(alloc: Global, text: &[u8]) -> Result<Program, ReadFault>
+fn read_items(alloc: Global, text: &[u8]) -> Result<Parsed, ReadFault>
     requires short { length text.now ≤ 1048576 }
     requires utf8 { IsUtf8 text.now }
-    ensures text { IfOk result (λ p. IsText text.now (program_of p)) }
+    ensures text { IfOk result (λ r. (program : List Item) × IsParsed r program × IsText text.now program) }
     ensures fault { IfErr result (λ e. IsReadFault text.now e) }
 {
     let mut cursor = Cursor::new(text);
     match cursor.items(alloc) {
-        Ok(items) => Ok(Program { items }),
+        Ok(parsed) => Ok(parsed),
         Err(Fault::Memory) => Err(ReadFault::Memory),
         Err(Fault::Syntax) => Err(fault_at(text, cursor.left())),
     }
 }
 
-/// Reads the text of a program.
+/// Reads the text of a program, with a tree unless some blocks stand more than 8 deep in one another.
 ///
 /// `TooLong` says that the text has more than 1,048,576 bytes, `NotUtf8` that it isn't UTF-8, `Syntax` that no program
 /// has it, and `Memory` that memory ran out; they are tried in this order.
-pub fn read_program(alloc: Global, text: &[u8]) -> Result<Program, ReadFault>
-    ensures text { IfOk result (λ p. IsText text.now (program_of p)) }
-    ensures short { IfOk result (λ p. length text.now ≤ 1048576) }
+pub fn read_program(alloc: Global, text: &[u8]) -> Result<Parsed, ReadFault>
+    ensures text { IfOk result (λ r. (program : List Item) × IsParsed r program × IsText text.now program) }
+    ensures short { IfOk result (λ r. length text.now ≤ 1048576) }
     ensures fault { IfErr result (λ e. IsReadFault text.now e) }
     ensures not_utf8 { length text.now ≤ 1048576 → (at : ℕ) → IsValidUpTo text.now at → result ≡ Err (ReadFault.NotUtf8 at) }
     ensures too_long { 1048576 < length text.now → result ≡ Err (ReadFault.TooLong (length text.now)) }

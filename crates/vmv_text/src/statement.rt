@@ -1,11 +1,13 @@
-ghost use Rattle.std.specs.Prelude.{◌≡◌};
+ghost use Rattle.std.specs.Prelude.{◌≡◌, ℕ};
 ghost use Rattle.vmv_tree.specs.View.{stmt_of};
 ghost use Rattle.vmv_text.specs.declared.token.Token.TheVariants.{Named, AssertWord};
-ghost use Rattle.vmv_text.specs.Reading.{Reads, ReadsAs, Any, IsTail, assigned, IsValue, IsNamedValue, IsCall, IsBehind};
+ghost use Rattle.vmv_text.specs.Reading.{Reads, ReadsAs, ReadsWith, Any, IsTail, assigned, IsValue, IsNamedValue, IsCall, IsBehind};
+ghost use Rattle.vmv_text.specs.Sizes.{IsStmtPart};
 
 use crate::cursor::Cursor;
 use crate::fault::Fault;
 use crate::operand::name_of;
+use crate::part::StmtPart;
 use crate::symbol::Symbol;
 use std::alloc::Global;
 use vmv_tree::{Name, Op, Operand, Stmt};
@@ -88,5 +90,21 @@ impl Cursor<'_> {
         let test = self.test()?;
         self.expect(Symbol::Semicolon)?;
         Ok(Stmt::Assert { test })
+    }
+
+    /// What an assignment has behind the assigned name, with its tree.
+    pub(crate) fn set_part(&mut self, alloc: Global, to: Name) -> Result<StmtPart, Fault>
+        ensures { (least : ℕ) → ReadsWith (IsStmtPart least) (IsBehind (Named to)) Any result self.old self.new }
+    {
+        let stmt = self.assignment(alloc, to)?;
+        Ok(StmtPart::Tree(stmt))
+    }
+
+    /// What an assert has behind its word, with its tree.
+    pub(crate) fn assert_part(&mut self) -> Result<StmtPart, Fault>
+        ensures { (least : ℕ) → ReadsWith (IsStmtPart least) (IsBehind AssertWord) Any result self.old self.new }
+    {
+        let stmt = self.assertion()?;
+        Ok(StmtPart::Tree(stmt))
     }
 }

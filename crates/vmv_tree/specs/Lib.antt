@@ -8,3 +8,4 @@ pub mod Safe
 pub mod Mentions
 pub mod Limits
 pub mod Valid
+pub mod Deep

@@ -4,12 +4,14 @@
 //! are, and what it means that an environment is safe for a program and that a revision is relatively correct.
 #![tactic(auto)]
 
+mod deep;
 mod defect;
 mod ends;
 mod name;
 mod site;
 mod tree;
 
+pub use deep::{DeepProcedure, DeepProgram, ItemCounts};
 pub use defect::Defect;
 pub use ends::{EndList, Ends, NameEnds};
 pub use name::Name;

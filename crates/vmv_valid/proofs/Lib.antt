@@ -7,3 +7,4 @@ pub mod PlacedItems
 pub mod NextItem
 pub mod Distinct
 pub mod Reached
+mod TooDeep

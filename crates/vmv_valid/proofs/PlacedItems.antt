@@ -5,6 +5,8 @@ use Rattle.std.specs.List.{Contains}
 use Rattle.std.proofs.lemmas.Int.{ints}
 use Rattle.std.proofs.lemmas.List.{length-map}
 use Rattle.std.proofs.lemmas.Bool.Decides.{Decides-eqb, Decides-ltb, Decides-like}
+use Rattle.vmv_tree.specs.declared.deep.ItemCounts.{ItemCounts}
+use Rattle.vmv_tree.specs.Deep.{HasCounts}
 use Rattle.vmv_tree.specs.declared.defect.Defect.{Defect}
 use Rattle.vmv_tree.specs.declared.defect.Defect.TheVariants.{Repeated, RangeEmpty, Limit}
 use Rattle.vmv_tree.specs.declared.name.Name.{Name}
@@ -19,7 +21,7 @@ use Rattle.vmv_valid.specs.declared.stop.FoundDefect.{FoundDefect}
 use Rattle.vmv_valid.specs.Names.{is_among}
 use Rattle.vmv_valid.specs.Callees.{capped_sum, capped_product}
 use Rattle.vmv_valid.specs.Measures.{measured_all, callees_of}
-use Rattle.vmv_valid.specs.Walks.{Walked, and_on, defect_at, walk_operand, walk_block, walk_names, walk_params, walk_body, walk_within, walk_kind, walk_limits, walk_entry_limits, walk_item, walk_items}
+use Rattle.vmv_valid.specs.Walks.{Walked, and_on, defect_at, walk_operand, walk_block, walk_names, walk_params, walk_body, walk_within, walk_kind, walk_limits, walk_entry_limits, walk_item, walk_items, item_counts}
 use Rattle.vmv_valid.proofs.FirstFound.{Either, Ends, Part, Here, both, here_from, no_part, quiet, nothing_else, lower_from, check, same_here, ends_at}
 use Rattle.vmv_valid.proofs.Measured.{AreCapped, block_right, callees_bring, depth_above, paths_above, steps_above, asks_above}
 use Rattle.vmv_valid.proofs.Placed.{among_tells, operand_part, block_part}
@@ -74,10 +76,11 @@ over_on {b} k which x most low hi found g small e below inside h =
     subst (λ (n : ℕ). Here (Either (Over k which x most) b) k (5 + which) hi (and_on (walk_within k which n most) g)) (sym e)
     (check_on k (Limit which (min x 1000000000) most) (most < x) low hi (nat_lt most (min x 1000000000)) g (over_tells x most small) below inside h)
 
-kind_on : {b : Finds} (k which found above low hi : ℕ) (g : ℕ → Walked) → 5 + which ≤ low → k < hi → Here b k low hi (g k)
-    → Here (Either (TooMany k which found above) b) k (5 + which) hi (and_on (walk_kind k which found above) g)
-kind_on k which found above low hi g below inside h =
-    check_on k (Limit which (min found 1000000000) 64) (above ≡ 64) low hi (above == 64) g (Decides-eqb above 64) below inside h
+kind_on : {b : Finds} (k which found told above low hi : ℕ) (g : ℕ → Walked) → told ≡ min found 1000000000 → 5 + which ≤ low → k < hi → Here b k low hi (g k)
+    → Here (Either (TooMany k which found above) b) k (5 + which) hi (and_on (walk_kind k which told above) g)
+kind_on {b} k which found told above low hi g e below inside h =
+    subst (λ (n : ℕ). Here (Either (TooMany k which found above) b) k (5 + which) hi (and_on (walk_kind k which n above) g)) (sym e)
+    (check_on k (Limit which (min found 1000000000) 64) (above ≡ 64) low hi (above == 64) g (Decides-eqb above 64) below inside h)
 
 -- walks one behind the other, in either grouping
 
@@ -120,7 +123,7 @@ four_out a b c e r m d (inl (inr (inr (inr x)))) = inr (inr (inr (inl x)))
 four_out a b c e r m d (inr x) = inr (inr (inr (inr x)))
 
 -- what the body of a procedure measures, over the items above it
-body_capped : (above : List Item) (body : Body)
+pub body_capped : (above : List Item) (body : Body)
     → AreCapped (measured_all (callees_of above) body.block) (length (block_indexes body.block)) (block_statements body.block) (block_nesting body.block)
     (block_deepest (depth_above above) body.block) (block_paths (paths_above above) body.block) (block_steps (steps_above above) body.block) (block_asks (asks_above above) body.block)
 body_capped above body =
@@ -172,16 +175,16 @@ entry_limits_on {r} above k hi params body g inside h =
     (over_on k 12 (unrolled_calls above body) 10000 100 hi m.asks g
     (omega arith) right.c_asks (omega arith) inside h)))))
 
-item_part : (program above : List Item) (k : ℕ) (item : Item) → Part (InItem program above k item) k (k + item_mentions item) (walk_item program above k item)
-item_part program above k (outside name arity) =
+item_part : (counts : ItemCounts) (program above : List Item) → HasCounts counts program → (k : ℕ) (item : Item) → Part (InItem program above k item) k (k + item_mentions item) (walk_item counts above k item)
+item_part counts program above has k (outside name arity) =
     let end = k + 1 in
     (check k Repeated (Contains (map name_of above) name) 6 end (is_among (map name_of above) name) (among_tells (map name_of above) name) (omega arith) (omega arith)
-    (kind_on k 1 (outside_count program) (outside_count above) 9 end (λ k. and_on (walk_within k 4 (min (turns_of arity) 1000000000) 16) (λ k. Ok (k + 1)))
-    (omega arith) (omega arith)
+    (kind_on k 1 (outside_count program) counts.outsides (outside_count above) 9 end (λ k. and_on (walk_within k 4 (min (turns_of arity) 1000000000) 16) (λ k. Ok (k + 1)))
+    has.outsides (omega arith) (omega arith)
     (same_here k 9 end (nothing_else (Over k 4 (turns_of arity) 16)) (λ (m : ℕ) (e : Defect) (x : Over k 4 (turns_of arity) 16 m e). inl x)
     (over_on k 4 (turns_of arity) 16 100 end (min (turns_of arity) 1000000000) (λ k. Ok (k + 1)) (omega arith) refl (omega arith) (omega arith)
     (quiet k 100 end (omega arith)))))).part
-item_part program above k (helper name params body) =
+item_part counts program above has k (helper name params body) =
     let inner = k + 1 + length params in
     let last = inner + body_mentions body in
     let m = measured_all (callees_of above) body.block in
@@ -190,13 +193,13 @@ item_part program above k (helper name params body) =
     let right = body_capped above body in
     ends_at k last (k + item_mentions (helper name params body)) (omega arith)
     (check k Repeated (Contains (map name_of above) name) 7 last (is_among (map name_of above) name) (among_tells (map name_of above) name) (omega arith) (omega arith)
-    (kind_on k 2 (helper_count program) (helper_count above) 10 last (λ k. and_on (walk_limits k (capped_sum (length params) (length body.vars)) m) depth_on)
-    (omega arith) (omega arith)
+    (kind_on k 2 (helper_count program) counts.helpers (helper_count above) 10 last (λ k. and_on (walk_limits k (capped_sum (length params) (length body.vars)) m) depth_on)
+    has.helpers (omega arith) (omega arith)
     (limits_on above k last params (length params) body depth_on refl (omega arith)
     (over_on k 8 (helper_depth above body) 16 100 last (capped_sum 1 m.deepest) names_on (omega arith) (omega (arith, right.c_deepest)) (omega arith) (omega arith)
     (here_from k 100 last
     (both (k + 1) inner last (λ k. walk_body (callees_of above) k params body) (names_part [] params (k + 1)) (body_part above inner params body))))))).part
-item_part program above k (entry name params body) =
+item_part counts program above has k (entry name params body) =
     let inner = k + 1 + length params in
     let last = inner + body_mentions body in
     let m = measured_all (callees_of above) body.block in
@@ -205,8 +208,8 @@ item_part program above k (entry name params body) =
     let numbers_on = λ (k : ℕ). and_on (walk_entry_limits k (min (distinct (entry_numbers above params body)) 1000000000) m) params_on in
     ends_at k last (k + item_mentions (entry name params body)) (omega arith)
     (check k Repeated (Contains (map name_of above) name) 8 last (is_among (map name_of above) name) (among_tells (map name_of above) name) (omega arith) (omega arith)
-    (kind_on k 3 (entry_count program) (entry_count above) 10 last (λ k. and_on (walk_limits k (capped_sum (length params) (length body.vars)) m) numbers_on)
-    (omega arith) (omega arith)
+    (kind_on k 3 (entry_count program) counts.entries (entry_count above) 10 last (λ k. and_on (walk_limits k (capped_sum (length params) (length body.vars)) m) numbers_on)
+    has.entries (omega arith) (omega arith)
     (limits_on above k last names (length params) body numbers_on (sym (length-map params (λ (p : Param). p.name))) (omega arith)
     (lower_from k 13 14 last (omega arith)
     (entry_limits_on above k last params body params_on (omega arith)
@@ -217,16 +220,16 @@ items_mentions : List Item → ℕ
 items_mentions [] = 0
 items_mentions (item ∷ items) = item_mentions item + items_mentions items
 
-items_part : (program above : List Item) (k : ℕ) (items : List Item) → Part (InItems program above k items) k (k + items_mentions items) (walk_items program above k items)
+items_part : (counts : ItemCounts) (program above : List Item) → HasCounts counts program → (k : ℕ) (items : List Item) → Part (InItems program above k items) k (k + items_mentions items) (walk_items counts above k items)
 unfolding items_mentions
-items_part program above k [] = ends_at k k (k + 0) (omega arith) (no_part k)
-items_part program above k (item ∷ items) =
+items_part counts program above has k [] = ends_at k k (k + 0) (omega arith) (no_part k)
+items_part counts program above has k (item ∷ items) =
     let mid = k + item_mentions item in
     let end = mid + items_mentions items in
     ends_at k end (k + items_mentions (item ∷ items)) (omega arith)
-    (both k mid end (λ k. walk_items program (item ∷ above) k items)
-    (item_part program above k item)
-    (items_part program (item ∷ above) mid items))
+    (both k mid end (λ k. walk_items counts (item ∷ above) k items)
+    (item_part counts program above has k item)
+    (items_part counts program (item ∷ above) has mid items))
 
 -- a walk to the end of a program says that it is valid
 
@@ -234,8 +237,8 @@ valid_by : (program : List Item) (hi : ℕ) (w : Walked) → Ends (HasDefect pro
 valid_by program hi (Ok next) h n e = h.1
 valid_by program hi (Err stop) h n e = absurd (cc)
 
-pub walked_valid : (program : List Item) (n : ℕ) → walk_items program [] 0 program ≡ Ok n → Valid program
-walked_valid program n e = valid_by program _ (walk_items program [] 0 program) (items_part program [] 0 program).ends n e
+pub walked_valid : (counts : ItemCounts) (program : List Item) (n : ℕ) → HasCounts counts program → walk_items counts [] 0 program ≡ Ok n → Valid program
+walked_valid counts program n has e = valid_by program _ (walk_items counts [] 0 program) (items_part counts program [] has 0 program).ends n e
 
 -- a walk that stops does so at the first defect
 
@@ -246,8 +249,12 @@ first_by program hi (Err (Found g)) h f e =
     subst (λ (x : FoundDefect). FirstDefect program x.mention x.defect) same (record { there = h.there; first = h.first; least = h.least })
 first_by program hi (Err Memory) h f e = absurd h
 
-pub walked_first : (program : List Item) (f : FoundDefect) → walk_items program [] 0 program ≡ Err (Found f) → FirstDefect program f.mention f.defect
-walked_first program f e = first_by program _ (walk_items program [] 0 program) (items_part program [] 0 program).ends f e
+pub walked_first : (counts : ItemCounts) (program : List Item) (f : FoundDefect) → HasCounts counts program → walk_items counts [] 0 program ≡ Err (Found f) → FirstDefect program f.mention f.defect
+walked_first counts program f has e = first_by program _ (walk_items counts [] 0 program) (items_part counts program [] has 0 program).ends f e
+
+-- the counts of a program are its own
+pub own_counts : (program : List Item) → HasCounts (item_counts program) program
+own_counts program = record { outsides = refl; helpers = refl; entries = refl }
 
 -- a program with a first defect isn't valid
 pub first_invalid : (program : List Item) (m : ℕ) (d : Defect) → FirstDefect program m d → Valid program → ⊥

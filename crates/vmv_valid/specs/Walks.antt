@@ -1,9 +1,11 @@
 -- A walk through a program, part by part: the number of the next mention, or the first defect. Private contracts alone
 -- cite these definitions and those beside them: what the crate promises is said by the first defect of a program.
-use Rattle.std.specs.Prelude.{◌≡◌, ◌≤◌, ℕ, ◌+◌, min, nat_lt, ◌==◌, int_lt, Bool, ◌||◌, Result, Ok, Err, List, [], ◌∷◌, ◌++◌, length, map, if◌then◌else◌}
+use Rattle.std.specs.Prelude.{◌≡◌, ◌≤◌, ℕ, ◌+◌, min, nat_lt, ◌==◌, int_lt, Bool, true, false, ◌||◌, Result, Ok, Err, List, [], ◌∷◌, ◌++◌, length, map, if◌then◌else◌}
 use Rattle.std.specs.Bool.{⊤}
 use Rattle.vmv_tree.specs.declared.defect.Defect.{Defect}
 use Rattle.vmv_tree.specs.declared.defect.Defect.TheVariants.{UnknownName, Repeated, ArityWrong, IndexAssigned, RangeEmpty, Limit}
+use Rattle.vmv_tree.specs.declared.deep.DeepProcedure.{DeepProcedure}
+use Rattle.vmv_tree.specs.declared.deep.ItemCounts.{ItemCounts}
 use Rattle.vmv_tree.specs.declared.name.Name.{Name}
 use Rattle.vmv_tree.specs.declared.tree.Operand.{Operand}
 use Rattle.vmv_tree.specs.declared.tree.Operand.TheVariants.{Lit, Var}
@@ -112,9 +114,9 @@ walk_body callees k params body =
 abbrev pub walk_within : ℕ → ℕ → ℕ → ℕ → Walked
 walk_within k which found most = if nat_lt most found then defect_at k (Limit which found most) else Ok k
 
--- one more item of a kind, of which so many are in the program
+-- one more item of a kind, of which the program is told to have so many
 abbrev pub walk_kind : ℕ → ℕ → ℕ → ℕ → Walked
-walk_kind k which found above = if above == 64 then defect_at k (Limit which (min found 1000000000) 64) else Ok k
+walk_kind k which found above = if above == 64 then defect_at k (Limit which found 64) else Ok k
 
 abbrev pub walk_limits : ℕ → ℕ → Measures → Walked
 walk_limits k names m =
@@ -126,35 +128,57 @@ walk_entry_limits k numbers m =
     and_on (walk_within k 9 numbers 256)
     (λ k. and_on (walk_within k 10 m.paths 1024) (λ k. and_on (walk_within k 11 (capped_sum m.steps 1) 100000) (λ k. walk_within k 12 m.asks 10000)))
 
-abbrev pub walk_item : List Item → List Item → ℕ → Item → Walked
-walk_item program above k (outside name arity) =
+-- the items of the program are told to be so many
+abbrev pub walk_item : ItemCounts → List Item → ℕ → Item → Walked
+walk_item counts above k (outside name arity) =
     if is_among (map name_of above) name then defect_at k Repeated
-    else and_on (walk_kind k 1 (outside_count program) (outside_count above))
+    else and_on (walk_kind k 1 counts.outsides (outside_count above))
     (λ k. and_on (walk_within k 4 (min (turns_of arity) 1000000000) 16) (λ k. Ok (k + 1)))
-walk_item program above k (helper name params body) =
+walk_item counts above k (helper name params body) =
     let m = measured_all (callees_of above) body.block in
     if is_among (map name_of above) name then defect_at k Repeated
-    else and_on (walk_kind k 2 (helper_count program) (helper_count above))
+    else and_on (walk_kind k 2 counts.helpers (helper_count above))
     (λ k. and_on (walk_limits k (capped_sum (length params) (length body.vars)) m)
     (λ k. and_on (walk_within k 8 (capped_sum 1 m.deepest) 16)
     (λ k. and_on (walk_names (k + 1) [] params)
     (λ k. walk_body (callees_of above) k params body))))
-walk_item program above k (entry name params body) =
+walk_item counts above k (entry name params body) =
     let m = measured_all (callees_of above) body.block in
     if is_among (map name_of above) name then defect_at k Repeated
-    else and_on (walk_kind k 3 (entry_count program) (entry_count above))
+    else and_on (walk_kind k 3 counts.entries (entry_count above))
     (λ k. and_on (walk_limits k (capped_sum (length params) (length body.vars)) m)
     (λ k. and_on (walk_entry_limits k (min (distinct (entry_numbers above params body)) 1000000000) m)
     (λ k. and_on (walk_params (k + 1) [] params)
     (λ k. walk_body (callees_of above) k (map (λ p. p.name) params) body))))
 
-abbrev pub walk_items : List Item → List Item → ℕ → List Item → Walked
-walk_items program above k [] = Ok k
-walk_items program above k (item ∷ items) =
-    and_on (walk_item program above k item) (λ k. walk_items program (item ∷ above) k items)
+abbrev pub walk_items : ItemCounts → List Item → ℕ → List Item → Walked
+walk_items counts above k [] = Ok k
+walk_items counts above k (item ∷ items) =
+    and_on (walk_item counts above k item) (λ k. walk_items counts (item ∷ above) k items)
 
 -- no more items of a kind than may be
 pub record HasRoom (above : List Item) : Type 0 where
   pub outsides : outside_count above ≤ 64
   pub helpers : helper_count above ≤ 64
   pub entries : entry_count above ≤ 64
+
+-- the items have so many of each kind, each number at most 1,000,000,000
+abbrev pub item_counts : List Item → ItemCounts
+item_counts items = record {
+  outsides = min (outside_count items) 1000000000;
+  helpers = min (helper_count items) 1000000000;
+  entries = min (entry_count items) 1000000000;
+}
+
+-- the kind of a procedure that is told, of which so many stand above
+abbrev pub walk_deep_kind : ItemCounts → List Item → ℕ → Bool → Walked
+walk_deep_kind counts above k true = walk_kind k 3 counts.entries (entry_count above)
+walk_deep_kind counts above k false = walk_kind k 2 counts.helpers (helper_count above)
+
+-- a procedure that is told, up to the last limit that it breaks
+abbrev pub walk_deep : ItemCounts → List Item → ℕ → DeepProcedure → Walked
+walk_deep counts above k deep =
+    if is_among (map name_of above) deep.name then defect_at k Repeated
+    else and_on (walk_deep_kind counts above k deep.is_entry)
+    (λ k. and_on (walk_within k 5 deep.variables 16)
+    (λ k. and_on (walk_within k 6 deep.statements 2000) (λ k. defect_at k (Limit 7 deep.nesting 8))))

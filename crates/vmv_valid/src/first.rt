@@ -4,20 +4,21 @@ ghost use Rattle.vmv_tree.specs.Valid.{Valid, FirstDefect};
 ghost use Rattle.vmv_valid.specs.Walks.{Answers, walk_items};
 
 use crate::item::{Place, walk_item};
+use crate::items::item_counts;
 use crate::measure::add_called;
 use crate::stop::{FoundDefect, Stop};
 use std::alloc::{AllocError, Global};
-use vmv_tree::{Item, Program};
+use vmv_tree::{Item, ItemCounts, Program};
 
-/// Walks over all items of a program.
-fn walk_items(alloc: Global, items: &[Item]) -> Result<u32, Stop>
-    ensures { Answers (walk_items (items_of items.now) [] 0 (items_of items.now)) result }
+/// Walks over the first items of a program, which has so many of each kind.
+pub(crate) fn walk_items(alloc: Global, counts: ItemCounts, items: &[Item]) -> Result<u32, Stop>
+    ensures { Answers (walk_items counts [] 0 (items_of items.now)) result }
 {
     let mut callees = Vec::new(alloc);
     let mut next = 0;
     for (i, item) in items.iter().enumerate() {
         let place = Place {
-            program: items,
+            counts,
             above: &items[..i],
             callees: callees.as_slice(),
         };
@@ -35,7 +36,8 @@ pub fn first_defect(alloc: Global, program: &Program) -> Result<Option<FoundDefe
     ensures valid { IfOk result (λ found. IsNone found ↔ Valid (program_of program.now)) }
     ensures first { IfOk result (λ found. IfSome found (λ f. FirstDefect (program_of program.now) f.mention f.defect)) }
 {
-    match walk_items(alloc, program.items.as_slice()) {
+    let items = program.items.as_slice();
+    match walk_items(alloc, item_counts(items), items) {
         Ok(_) => Ok(None),
         Err(Stop::Found(found)) => Ok(Some(found)),
         Err(Stop::Memory) => Err(AllocError),

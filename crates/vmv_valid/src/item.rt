@@ -14,13 +14,13 @@ use crate::procedure::{
 };
 use crate::stop::{Stop, found as stop_at};
 use std::alloc::Global;
-use vmv_tree::{Body, Defect, Item, Name, Param};
+use vmv_tree::{Body, Defect, Item, ItemCounts, Name, Param};
 
 /// Where an item stands in its program.
 #[derive(Clone, Copy, Drop)]
 pub(crate) struct Place<'a> {
-    /// All items.
-    pub program: &'a [Item],
+    /// How many items of each kind the program has.
+    pub counts: ItemCounts,
     /// Those above it, in text order.
     pub above: &'a [Item],
     /// What it may call, the nearest first.
@@ -28,12 +28,11 @@ pub(crate) struct Place<'a> {
 }
 
 /// Walks on where fewer than 64 items of the kind stand above, of so many in the program.
-fn walk_kind(at: u32, which: u8, found: usize, above: usize) -> Result<u32, Stop>
+pub(crate) fn walk_kind(at: u32, which: u8, found: u64, above: usize) -> Result<u32, Stop>
     ensures walked { result ≡ walk_kind at which found above }
     ensures next { IfOk result (λ next. next ≡ at) }
 {
     if above == 64 {
-        let found = (found as u64).min(CAP);
         return Err(stop_at(
             at,
             Defect::Limit {
@@ -49,18 +48,13 @@ fn walk_kind(at: u32, which: u8, found: usize, above: usize) -> Result<u32, Stop
 #[tactic(auto, using(crate::proofs::Turned::turned))]
 fn walk_outside(place: &Place<'_>, at: u32, name: &Name, arity: i64) -> Result<u32, Stop>
     requires { at + 1 < 2 ^ 32 }
-    ensures walked { Answers (walk_item (items_of place.now.program.now) (reverse (items_of place.now.above.now)) at (outside name.now arity)) result }
+    ensures walked { Answers (walk_item place.now.counts (reverse (items_of place.now.above.now)) at (outside name.now arity)) result }
     ensures next { IfOk result (λ next. (next ≤ at + 1) × (turns_of arity ≤ 16)) }
 {
     if is_declared(place.above, name) {
         return Err(stop_at(at, Defect::Repeated));
     }
-    let at = walk_kind(
-        at,
-        1,
-        outside_count(place.program),
-        outside_count(place.above),
-    )?;
+    let at = walk_kind(at, 1, place.counts.outsides, outside_count(place.above))?;
     let at = walk_within(at, 4, turns_of(arity).min(CAP), 16)?;
     Ok(at + 1)
 }
@@ -76,18 +70,13 @@ fn walk_helper(
 ) -> Result<u32, Stop>
     requires callees { place.now.callees.now ≡ callees_of (reverse (items_of place.now.above.now)) }
     requires room { at + 700000 < 2 ^ 32 }
-    ensures walked { Answers (walk_item (items_of place.now.program.now) (reverse (items_of place.now.above.now)) at (helper name.now params.now (body_of body.now))) result }
+    ensures walked { Answers (walk_item place.now.counts (reverse (items_of place.now.above.now)) at (helper name.now params.now (body_of body.now))) result }
     ensures next { IfOk result (λ next. (next ≤ at + 700000) × (length params.now ≤ 16)) }
 {
     if is_declared(place.above, name) {
         return Err(stop_at(at, Defect::Repeated));
     }
-    let at = walk_kind(
-        at,
-        2,
-        helper_count(place.program),
-        helper_count(place.above),
-    )?;
+    let at = walk_kind(at, 2, place.counts.helpers, helper_count(place.above))?;
     let measures = measured_all(place.callees, body.block.as_slice());
     let names = capped_sum(params.len() as u64, body.vars.len() as u64);
     let at = walk_limits(at, names, &measures)?;
@@ -108,13 +97,13 @@ fn walk_entry(
 ) -> Result<u32, Stop>
     requires callees { place.now.callees.now ≡ callees_of (reverse (items_of place.now.above.now)) }
     requires room { at + 700000 < 2 ^ 32 }
-    ensures walked { Answers (walk_item (items_of place.now.program.now) (reverse (items_of place.now.above.now)) at (entry name.now params.now (body_of body.now))) result }
+    ensures walked { Answers (walk_item place.now.counts (reverse (items_of place.now.above.now)) at (entry name.now params.now (body_of body.now))) result }
     ensures next { IfOk result (λ next. next ≤ at + 700000) }
 {
     if is_declared(place.above, name) {
         return Err(stop_at(at, Defect::Repeated));
     }
-    let at = walk_kind(at, 3, entry_count(place.program), entry_count(place.above))?;
+    let at = walk_kind(at, 3, place.counts.entries, entry_count(place.above))?;
     let measures = measured_all(place.callees, body.block.as_slice());
     let names = capped_sum(params.len() as u64, body.vars.len() as u64);
     let at = walk_limits(at, names, &measures)?;
@@ -129,7 +118,7 @@ fn walk_entry(
 pub(crate) fn walk_item(alloc: Global, place: &Place<'_>, at: u32, item: &Item) -> Result<u32, Stop>
     requires callees { place.now.callees.now ≡ callees_of (reverse (items_of place.now.above.now)) }
     requires room { at + 700000 < 2 ^ 32 }
-    ensures walked { Answers (walk_item (items_of place.now.program.now) (reverse (items_of place.now.above.now)) at (item_of item.now)) result }
+    ensures walked { Answers (walk_item place.now.counts (reverse (items_of place.now.above.now)) at (item_of item.now)) result }
     ensures next { IfOk result (λ next. next ≤ at + 700000) }
     ensures small { OnOk result (IsSmall (item_of item.now)) }
 {

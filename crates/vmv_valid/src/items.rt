@@ -3,8 +3,10 @@ ghost use Rattle.vmv_tree.specs.View.{item_of, items_of};
 ghost use Rattle.vmv_tree.specs.Run.{name_of};
 ghost use Rattle.vmv_tree.specs.Limits.{outside_count, helper_count, entry_count};
 ghost use Rattle.vmv_valid.specs.Names.{is_among};
+ghost use Rattle.vmv_valid.specs.Walks.{item_counts};
 
-use vmv_tree::{Item, Name};
+use crate::callee::CAP;
+use vmv_tree::{Item, ItemCounts, Name};
 
 fn name_of(item: &Item) -> &Name
     ensures { result.now ≡ name_of (item_of item.now) }
@@ -65,4 +67,15 @@ pub(crate) fn entry_count(items: &[Item]) -> usize
         }
     }
     count
+}
+
+/// How many items of each kind there are.
+pub(crate) fn item_counts(items: &[Item]) -> ItemCounts
+    ensures { result ≡ item_counts (items_of items.now) }
+{
+    ItemCounts {
+        outsides: (outside_count(items) as u64).min(CAP),
+        helpers: (helper_count(items) as u64).min(CAP),
+        entries: (entry_count(items) as u64).min(CAP),
+    }
 }

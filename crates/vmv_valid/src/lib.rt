@@ -5,6 +5,7 @@
 #![tactic(auto)]
 
 mod callee;
+mod deep;
 mod first;
 mod item;
 mod items;
@@ -15,6 +16,7 @@ mod procedure;
 mod statement;
 mod stop;
 
+pub use deep::first_defect_of_deep;
 pub use first::first_defect;
 pub use names::is_among;
 pub use numbers::reached_numbers;

@@ -17,8 +17,8 @@ loop-i-preserved c =
     let is = c.index-items-i.is in
     let walked = c.in_ok-next.ensures.walked in
     record {
-      told = told_more (items_of items) items c.loop-i.i c.loop-i.next c.in_ok-next.next item below is walked ∙ c.loop-i.invariant.told;
+      told = told_more c.args.counts items c.loop-i.i c.loop-i.next c.in_ok-next.next item below is walked ∙ c.loop-i.invariant.told;
       callees = callees_more items c.loop-i.i item c.loop-i.callees.items c.add_called.new.callees.items below is c.loop-i.invariant.callees c.in_ok-add_called.ensures;
-      kinds = room_kept (items_of items) items c.loop-i.i c.loop-i.next c.in_ok-next.next item below is c.loop-i.invariant.kinds walked;
+      kinds = room_kept c.args.counts items c.loop-i.i c.loop-i.next c.in_ok-next.next item below is c.loop-i.invariant.kinds walked;
       room = omega (arith, c.in_ok-next.ensures.next, c.loop-i.invariant.room);
     }

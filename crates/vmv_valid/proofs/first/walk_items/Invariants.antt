@@ -9,7 +9,7 @@ abbrev pub invariant-loop-i : goal.invariant-loop-i
 invariant-loop-i l =
     let above = reverse (items_of (take l.i l.items)) in
     record {
-      told : walk_items (items_of l.items) above l.next (items_of (drop l.i l.items)) ≡ walk_items (items_of l.items) [] 0 (items_of l.items);
+      told : walk_items l.counts above l.next (items_of (drop l.i l.items)) ≡ walk_items l.counts [] 0 (items_of l.items);
       callees : l.callees.items ≡ callees_of above;
       kinds : HasRoom above;
       room : l.next ≤ 700000 * l.i;

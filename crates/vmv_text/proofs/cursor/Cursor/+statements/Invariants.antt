@@ -1,7 +1,6 @@
 use Rattle.std.proofs.Common.{◌+◌, ◌*◌, ◌≤◌, length}
-use Rattle.vmv_tree.specs.View.{block_of}
 use Rattle.vmv_text.specs.Symbols.{as_token}
-use Rattle.vmv_text.proofs.Blocks.{Reached}
+use Rattle.vmv_text.proofs.Blocks.{ReachedPart}
 use Rattle.vmv_text.proofs.cursor.Cursor.+statements.Given as goal
 
 abbrev pub decreases-block : goal.decreases-block
@@ -23,7 +22,7 @@ abbrev pub decreases-statements : goal.decreases-statements
 decreases-statements l = 8 * length l.self.now + 1
 
 abbrev pub invariant-statements-loop-alloc : goal.invariant-statements-loop-alloc
-invariant-statements-loop-alloc l = record { reached : Reached (as_token l.last) l.initial.self (block_of l.block) l.self; within : length l.self ≤ length l.initial.self }
+invariant-statements-loop-alloc l = record { reached : ReachedPart (l.room + 1) (as_token l.last) l.initial.self l.block l.self; within : length l.self ≤ length l.initial.self }
 
 abbrev pub decreases-statements-loop-alloc : goal.decreases-statements-loop-alloc
 decreases-statements-loop-alloc l = length l.self

@@ -1,9 +1,9 @@
 use Rattle.std.proofs.Common.{◌≡◌, Some, None, sym, ◌∙◌, ap}
-use Rattle.vmv_tree.specs.View.{item_of}
+use Rattle.vmv_text.specs.Parts.{IsItemPart}
 use Rattle.vmv_text.specs.declared.token.Token.TheVariants.{OutsideWord, HelperWord, EntryWord}
 use Rattle.vmv_text.specs.Grammar.{IsItem}
 use Rattle.vmv_text.specs.Reading.{Any, IsItemBehind, first_of}
-use Rattle.vmv_text.proofs.Steps.{carried_as, shorter_behind}
+use Rattle.vmv_text.proofs.Steps.{carried_with, shorter_with}
 use Rattle.vmv_text.proofs.Items.{item-behind, item_stops}
 use Rattle.vmv_text.proofs.cursor.Cursor.item.Goals as goal
 
@@ -22,27 +22,27 @@ returns-in_default-word c =
 
 pub returns-in-OutsideWord-clause-reads : goal.returns-in-OutsideWord-clause-reads
 returns-in-OutsideWord-clause-reads c =
-    carried_as item_of IsItem (IsItemBehind OutsideWord) Any c.outside.result _ _ c.outside.new.self
-    (item-behind OutsideWord _ _ (sym c.peek.ensures ∙ (c.in-Some.is ∙ ap Some c.in-OutsideWord.is)) c.skip.ensures.exact) c.outside.ensures
+    carried_with IsItemPart IsItem (IsItemBehind OutsideWord) Any c.outside_part.result _ _ c.outside_part.new.self
+    (item-behind OutsideWord _ _ (sym c.peek.ensures ∙ (c.in-Some.is ∙ ap Some c.in-OutsideWord.is)) c.skip.ensures.exact) c.outside_part.ensures
 
 pub returns-in-OutsideWord-clause-shorter : goal.returns-in-OutsideWord-clause-shorter
 returns-in-OutsideWord-clause-shorter c =
-    shorter_behind item_of (IsItemBehind OutsideWord) Any c.outside.result OutsideWord c.args.self.now c.skip.new.self c.outside.new.self (sym c.peek.ensures ∙ (c.in-Some.is ∙ ap Some c.in-OutsideWord.is)) c.skip.ensures.exact c.outside.ensures
+    shorter_with IsItemPart (IsItemBehind OutsideWord) Any c.outside_part.result OutsideWord c.args.self.now c.skip.new.self c.outside_part.new.self (sym c.peek.ensures ∙ (c.in-Some.is ∙ ap Some c.in-OutsideWord.is)) c.skip.ensures.exact c.outside_part.ensures
 
 pub returns-in-HelperWord-clause-reads : goal.returns-in-HelperWord-clause-reads
 returns-in-HelperWord-clause-reads c =
-    carried_as item_of IsItem (IsItemBehind HelperWord) Any c.helper.result _ _ c.helper.new.self
+    carried_with IsItemPart IsItem (IsItemBehind HelperWord) Any c.helper.result _ _ c.helper.new.self
     (item-behind HelperWord _ _ (sym c.peek.ensures ∙ (c.in-Some.is ∙ ap Some c.in-HelperWord.is)) c.skip-in-HelperWord.ensures.exact) c.helper.ensures
 
 pub returns-in-HelperWord-clause-shorter : goal.returns-in-HelperWord-clause-shorter
 returns-in-HelperWord-clause-shorter c =
-    shorter_behind item_of (IsItemBehind HelperWord) Any c.helper.result HelperWord c.args.self.now c.skip-in-HelperWord.new.self c.helper.new.self (sym c.peek.ensures ∙ (c.in-Some.is ∙ ap Some c.in-HelperWord.is)) c.skip-in-HelperWord.ensures.exact c.helper.ensures
+    shorter_with IsItemPart (IsItemBehind HelperWord) Any c.helper.result HelperWord c.args.self.now c.skip-in-HelperWord.new.self c.helper.new.self (sym c.peek.ensures ∙ (c.in-Some.is ∙ ap Some c.in-HelperWord.is)) c.skip-in-HelperWord.ensures.exact c.helper.ensures
 
 pub returns-in-EntryWord-clause-reads : goal.returns-in-EntryWord-clause-reads
 returns-in-EntryWord-clause-reads c =
-    carried_as item_of IsItem (IsItemBehind EntryWord) Any c.entry.result _ _ c.entry.new.self
+    carried_with IsItemPart IsItem (IsItemBehind EntryWord) Any c.entry.result _ _ c.entry.new.self
     (item-behind EntryWord _ _ (sym c.peek.ensures ∙ (c.in-Some.is ∙ ap Some c.in-EntryWord.is)) c.skip-in-EntryWord.ensures.exact) c.entry.ensures
 
 pub returns-in-EntryWord-clause-shorter : goal.returns-in-EntryWord-clause-shorter
 returns-in-EntryWord-clause-shorter c =
-    shorter_behind item_of (IsItemBehind EntryWord) Any c.entry.result EntryWord c.args.self.now c.skip-in-EntryWord.new.self c.entry.new.self (sym c.peek.ensures ∙ (c.in-Some.is ∙ ap Some c.in-EntryWord.is)) c.skip-in-EntryWord.ensures.exact c.entry.ensures
+    shorter_with IsItemPart (IsItemBehind EntryWord) Any c.entry.result EntryWord c.args.self.now c.skip-in-EntryWord.new.self c.entry.new.self (sym c.peek.ensures ∙ (c.in-Some.is ∙ ap Some c.in-EntryWord.is)) c.skip-in-EntryWord.ensures.exact c.entry.ensures
