@@ -111,7 +111,7 @@ first_for program number box ends assumed first rest least =
     subst (IsRowFor program number least.input) (sym (heads first b.first rest b.rest b.is)) b.for
 
 -- it is above the box
-first_above : (program : Resolution) (number : ℕ) (box : Box) (ends : List NameEnds) (assumed : Assumed) (first : Row) (rest : List Row) → IsLeastTable program number box ends assumed (first ∷ rest) → IsRowAbove program number box first
+pub first_above : (program : Resolution) (number : ℕ) (box : Box) (ends : List NameEnds) (assumed : Assumed) (first : Row) (rest : List Row) → IsLeastTable program number box ends assumed (first ∷ rest) → IsRowAbove program number box first
 first_above program number box ends assumed first rest least =
     let f = first_for program number box ends assumed first rest least in
     record {

@@ -7,7 +7,7 @@ ghost use Rattle.vmv_snapshot.specs.Resolution.{Resolution, IsResolution};
 ghost use Rattle.vmv_assumption.specs.Assumed.{Assumed};
 ghost use Rattle.vmv_cert.specs.declared.row.Row.{Row};
 ghost use Rattle.vmv_cert.specs.declared.row.Reach.TheVariants.{Bottom};
-ghost use Rattle.vmv_cert.specs.Tables.{Box, IsEntry, IsBoxIn, ranges_of, Dead, Provable};
+ghost use Rattle.vmv_cert.specs.Tables.{Box, IsRowAbove, IsEntry, IsBoxIn, ranges_of, Dead, Provable};
 ghost use Rattle.vmv_forward.specs.Least.{IsLeastTable, IsFirst};
 
 /// An entry doesn't return from a box where the first row of the least table says so.
@@ -23,6 +23,11 @@ pub fn least_tables_decide_proof()
 /// A least table has a first row.
 pub fn least_tables_have_rows()
     ensures { (program : Resolution) (number : ℕ) (box : Box) (ends : List NameEnds) (assumed : Assumed) (rows : List Row) → IsLeastTable program number box ends assumed rows → (first : Row) × (rest : List Row) × (rows ≡ first ∷ rest) × IsFirst program number first }
+{}
+
+/// The first row of a least table is one of the entry with an input above the box.
+pub fn least_tables_begin_above_their_boxes()
+    ensures { (program : Resolution) (number : ℕ) (box : Box) (ends : List NameEnds) (assumed : Assumed) (first : Row) (rest : List Row) → IsLeastTable program number box ends assumed (first ∷ rest) → IsRowAbove program number box first }
 {}
 
 /// Two tables that are least for one entry, box, ends and assumption are equal.

@@ -18,8 +18,8 @@ mod table;
 
 pub use decided::{death, least_table, unproved_sites};
 pub use laws::{
-    least_tables_are_unique, least_tables_decide_death, least_tables_decide_proof,
-    least_tables_have_rows,
+    least_tables_are_unique, least_tables_begin_above_their_boxes, least_tables_decide_death,
+    least_tables_decide_proof, least_tables_have_rows,
 };
 pub use table::least;
 pub use vmv_pass::Steps;

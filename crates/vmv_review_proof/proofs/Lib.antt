@@ -1,1 +1,2 @@
 pub mod Basing
+pub mod Stopping
