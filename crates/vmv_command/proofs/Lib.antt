@@ -2,3 +2,4 @@ pub mod Outputs
 pub mod Verdict
 pub mod Fitting
 pub mod Regression
+pub mod Reviewing

@@ -63,9 +63,13 @@ programs_show law proved B R printed status h is =
     ⊎_elim
     (λ (front : (more : List ℕ) × (printed ≡ report_text h.report h.base_code h.revision_code ++ more) × (status ≡ review_status h.report.verdict)).
     let text = report_text h.report h.base_code h.revision_code in
-    let shows = law h.base_code h.revision_code h.report h.base_is.resolution h.revision_is.resolution h.report_is (verdict_is h.report.verdict (sym front.2 ∙ is)) in
-    (text, front.0, front.1, subst (λ (P : List Item). ShowsRegression P R text) h.base_is.tree
-    (subst (λ (P : List Item). ShowsRegression (tree_of h.base_code) P text) h.revision_is.tree shows)))
+    let shows = law h.base_code h.revision_code h.report h.base_is.resolution h.revision_is.resolution h.report_is (verdict_is h.report.verdict (sym front.2 ∙ is)) in (
+      text,
+      front.0,
+      front.1,
+      subst (λ (P : List Item). ShowsRegression P R text) h.base_is.tree
+          (subst (λ (P : List Item). ShowsRegression (tree_of h.base_code) P text) h.revision_is.tree shows),
+    ))
     (λ (large : (found : ℕ) × (printed ≡ too_large_line found) × (status ≡ 5)). let e = sym large.2 ∙ is in absurd (cc))
     (begins_so proved h.base_code h.revision_code h.report printed status h.prints)
 

@@ -52,8 +52,8 @@ pub begins_so : (proved : Bool) (B R : Resolution) (report : Report) (printed : 
     → ((more : List ℕ) × (printed ≡ report_text report B R ++ more) × (status ≡ review_status report.verdict)) ⊎ ((found : ℕ) × (printed ≡ too_large_line found) × (status ≡ 5))
 begins_so false B R report printed status h = inl ([], h.0 ∙ sym (append-nil (report_text report B R)), h.1)
 begins_so true B R report printed status (inl (four, h)) = inl ([], h.0 ∙ sym (append-nil (report_text report B R)), h.1)
-begins_so true B R report printed status (inr (other, proof, is, (inl (within, text, meant)))) = inl (proof_text proof, text, meant)
-begins_so true B R report printed status (inr (other, proof, is, (inr (found, over, text, meant)))) = inr (found, text, meant)
+begins_so true B R report printed status (inr (proof, is, (inl (within, text, meant)))) = inl (proof_text proof, text, meant)
+begins_so true B R report printed status (inr (proof, is, (inr (found, over, text, meant)))) = inr (found, text, meant)
 
 too_large_not_said : (found : ℕ) (printed : List ℕ) → printed ≡ too_large_line found → SaysRelativelyCorrect printed → ⊥
 too_large_not_said found printed is said = not_said (too_large_line found) printed is refl said

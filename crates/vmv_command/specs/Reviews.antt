@@ -1,5 +1,5 @@
 -- The review of two valid programs: the text of its report, with its proof where that is asked for, and its status.
-use Rattle.std.specs.Prelude.{◌≡◌, ◌≢◌, ◌⊎◌, ◌==◌, ℕ, Bool, true, false, List, ◌++◌, codes, if◌then◌else◌}
+use Rattle.std.specs.Prelude.{◌≡◌, ◌⊎◌, ◌==◌, ℕ, Bool, true, false, List, ◌++◌, codes, if◌then◌else◌}
 use Rattle.std.specs.Fmt.{decimal}
 use Rattle.vmv_tree.specs.Tree.{Item}
 use Rattle.vmv_snapshot.specs.Resolution.{Resolution, IsResolution, tree_of}
@@ -37,12 +37,12 @@ PrintsProof base revision report proof printed status =
     ⊎ ((found : ℕ) × IsOver proof (TooLarge found)
     × (printed ≡ too_large_line found) × (status ≡ 5))
 
--- the proof of the review is printed where it is asked for and the base isn't vacuous
+-- the proof of the review is printed where it is asked for and there is one: there is none for a vacuous base, whose verdict is 4
 abbrev pub PrintsReview : Bool → (base revision : Resolution) → Report → List ℕ → ℕ → Type 0
 PrintsReview false base revision report printed status = PrintsReport base revision report printed status
 PrintsReview true base revision report printed status =
     ((report.verdict ≡ 4) × PrintsReport base revision report printed status)
-    ⊎ ((report.verdict ≢ 4) × ((proof : Proof) × IsProofOf base revision proof × PrintsProof base revision report proof printed status))
+    ⊎ ((proof : Proof) × IsProofOf base revision proof × PrintsProof base revision report proof printed status)
 
 -- the review of a revision against a base, with its proof where that is asked for
 pub record ReviewsPrograms (proved : Bool) (base revision : List Item) (printed : List ℕ) (status : ℕ) : Type 0 where

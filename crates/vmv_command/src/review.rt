@@ -2,7 +2,9 @@ ghost use Rattle.std.specs.Prelude.{◌≡◌, ◌++◌, codes, true, false, IfO
 ghost use Rattle.vmv_edge.specs.Outside.{Rose};
 ghost use Rattle.vmv_snapshot.specs.Resolution.{tree_of};
 ghost use Rattle.vmv_command.specs.Command.{text_most, OnFile, ReviewsTexts};
-ghost use Rattle.vmv_review_proof.specs.Proofs.{HasConditions};
+ghost use Rattle.vmv_report.specs.Reports.{IsReport};
+ghost use Rattle.vmv_review_proof.specs.Proofs.{HasConditions, IsProofOf};
+ghost use Rattle.vmv_review_proof.specs.Limit.{IsWithin};
 ghost use Rattle.vmv_command.specs.Reviews.{review_status, too_large_line, ReviewsPrograms};
 ghost use Rattle.vmv_command.specs.Work.{ReviewsBase};
 
@@ -16,6 +18,7 @@ use vmv_edge::{Shelf, Text};
 use vmv_need::Needed;
 use vmv_proof_text::write_proof;
 use vmv_report::{Baseline, baseline, judge, text_of};
+use vmv_report_laws::baselines_are_unique;
 use vmv_review_proof::{Judged, ProofStop, is_within_limit, judge_with_proof};
 use vmv_snapshot::Snapshot;
 use vmv_source::parse;
@@ -32,15 +35,11 @@ fn status_of(verdict: u8) -> u8
 }
 
 // The output of a review without its proof.
-fn report_output(
-    alloc: Global,
-    found: &Baseline,
-    revision: &Snapshot,
-) -> Result<Output, AllocError>
+fn report_output(alloc: Global, found: &Baseline, revision: &Snapshot) -> Result<Output, AllocError>
     ensures { IfOk result (λ output. ReviewsBase false found.now revision.now output.text output.status) }
 {
-    let report = judge(alloc, found, revision)?;
-    let text = text_of(alloc, &report, found.base(), revision)?;
+    let report = judge(alloc, found, revision)?; // without a proof
+    let text = text_of(alloc, &report, found.base(), revision)?; // without a proof
     Ok(Output {
         text,
         status: status_of(report.verdict),
@@ -64,42 +63,71 @@ fn too_large(alloc: Global, found: usize) -> Result<Output, AllocError>
     Output::of(alloc, line.as_bytes(), 5)
 }
 
-// The output of a review with its proof, of a base that isn't vacuous.
-fn proved_output(
+// The output of a report and its proof, where the proof isn't too long.
+fn judged_output(
     alloc: Global,
     found: &Baseline,
     revision: &Snapshot,
+    judged: &Judged,
 ) -> Result<Output, AllocError>
+    requires report { IsReport found.now.base revision.now judged.now.report }
+    requires proof { IsProofOf found.now.base revision.now judged.now.proof }
+    requires within { IsWithin judged.now.proof }
+    ensures { IfOk result (λ output. ReviewsBase true found.now revision.now output.text output.status) }
+{
+    let base = found.base();
+    let report_text = text_of(alloc, &judged.report, base, revision)?;
+    let proof_text = write_proof(alloc, &judged.proof)?;
+    let text = both_texts(alloc, &report_text, &proof_text)?;
+    Ok(Output {
+        text,
+        status: status_of(judged.report.verdict),
+    })
+}
+
+// The output of a review with its proof, of a base that isn't vacuous.
+fn proved_output(alloc: Global, found: &Baseline, revision: &Snapshot) -> Result<Output, AllocError>
     requires { HasConditions found.now.needed }
     ensures { IfOk result (λ output. ReviewsBase true found.now revision.now output.text output.status) }
 {
-    let Judged { report, proof } = judge_with_proof(alloc, found, revision)?;
-    match is_within_limit(alloc, &proof) {
-        Ok(()) => {
-            let report_text = text_of(alloc, &report, found.base(), revision)?;
-            let proof_text = write_proof(alloc, &proof)?;
-            Ok(Output {
-                text: both_texts(alloc, &report_text, &proof_text)?,
-                status: status_of(report.verdict),
-            })
-        }
+    let judged = judge_with_proof(alloc, found, revision)?;
+    match is_within_limit(alloc, &judged.proof) {
+        Ok(()) => judged_output(alloc, found, revision, &judged),
         Err(ProofStop::TooLarge { found }) => too_large(alloc, found),
         Err(ProofStop::Memory) => Err(AllocError),
     }
 }
 
-// The output of a review, with its proof where that is asked for and the base isn't vacuous.
-fn output_by(
+// The output of the review of a vacuous base, which has no proof.
+fn vacuous_output(
     alloc: Global,
     found: &Baseline,
     revision: &Snapshot,
-    proved: bool,
 ) -> Result<Output, AllocError>
-    ensures { IfOk result (λ output. ReviewsBase proved found.now revision.now output.text output.status) }
+    requires { HasConditions found.now.needed → ⊥ }
+    ensures { IfOk result (λ output. ReviewsBase true found.now revision.now output.text output.status) }
+{
+    baselines_are_unique();
+    let base = found.base();
+    let report = judge(alloc, found, revision)?;
+    let text = text_of(alloc, &report, base, revision)?;
+    Ok(Output {
+        text,
+        status: status_of(report.verdict),
+    })
+}
+
+// The output of a review with its proof, where there is one.
+fn review_with_proof(
+    alloc: Global,
+    found: &Baseline,
+    revision: &Snapshot,
+) -> Result<Output, AllocError>
+    ensures { IfOk result (λ output. ReviewsBase true found.now revision.now output.text output.status) }
 {
     match found.needed() {
-        Needed::Conditions { .. } if proved => proved_output(alloc, found, revision),
-        _ => report_output(alloc, found, revision),
+        Needed::Conditions { .. } => proved_output(alloc, found, revision),
+        Needed::Vacuous { .. } => vacuous_output(alloc, found, revision),
     }
 }
 
@@ -115,7 +143,11 @@ fn review_programs(
     let found = baseline(alloc, Arc::new(alloc, base)?)?;
     let _revision = revision.program();
     let _base = found.base();
-    output_by(alloc, &found, revision, proved)
+    if proved {
+        review_with_proof(alloc, &found, revision)
+    } else {
+        report_output(alloc, &found, revision)
+    }
 }
 
 // The review of two texts.
