@@ -1,1 +1,5 @@
 pub mod Unique
+pub mod Cutting
+pub mod Excluding
+pub mod Counting
+pub mod Accepting
