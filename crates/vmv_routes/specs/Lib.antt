@@ -1,0 +1,4 @@
+pub mod Paths
+pub mod Routes
+pub mod Fields
+pub mod Asked
