@@ -23,10 +23,13 @@ pub struct SqlKeeper<S: Alter> {
 }
 
 impl<S: Alter> SqlKeeper<S> {
+    ghost use Rattle.vmv_sql.specs.Over.{connection_of};
+
     /// Takes an opened connection that is in no transaction, without memory. No call has failed yet.
     pub fn adopt(connection: Connection<S>) -> SqlKeeper<S>
         requires { connection.in_transaction ≡ false }
-        ensures { ⟦<SqlKeeper<S> as Keeper>⟧.fault_count result ≡ 0 }
+        ensures over { connection_of result ≡ connection }
+        ensures unused { ⟦<SqlKeeper<S> as Keeper>⟧.fault_count result ≡ 0 }
     {
         SqlKeeper {
             connection,
@@ -36,7 +39,8 @@ impl<S: Alter> SqlKeeper<S> {
 
     /// Gives the connection back, in no transaction, without memory.
     pub fn into_connection(self) -> Connection<S>
-        ensures { result.in_transaction ≡ false }
+        ensures same { result ≡ connection_of self }
+        ensures settled { result.in_transaction ≡ false }
     {
         let SqlKeeper {
             connection,
