@@ -1,0 +1,5 @@
+pub mod Lists
+pub mod Counted
+pub mod Few
+pub mod Turned
+pub mod Refusals
