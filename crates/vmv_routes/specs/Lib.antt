@@ -1,4 +1,5 @@
 pub mod Paths
 pub mod Routes
+pub mod Matching
 pub mod Fields
 pub mod Asked
