@@ -5,6 +5,7 @@ mod CallSizes
 mod Low
 mod Reading
 mod Passing
+mod Listed
 mod Turning
 mod Calling
 mod Fresh
@@ -37,5 +38,4 @@ mod Scaling
 mod Opening
 mod Reached
 mod Beside
-mod Marking
 mod Flagging

@@ -15,9 +15,11 @@ use Rattle.vmv_pass.specs.Source.{Stored, Source, result_in}
 use Rattle.vmv_pass.specs.Holds.{Settles}
 use Rattle.vmv_pass.specs.Room.{rooms, ranks}
 use Rattle.vmv_pass.specs.Upper.{IsProc, Fits, AreBelow, IsUnder, IsUpper}
+use Rattle.vmv_pass.specs.Told.{AreTold}
 use Rattle.vmv_forward.specs.Path.{Path}
-use Rattle.vmv_forward.specs.Rounds.{Quest, stored_of, AreKept, IsVisited, IsPassed}
-use Rattle.vmv_forward.proofs.Sets.{get_other}
+use Rattle.vmv_forward.specs.Rounds.{Quest, stored_of, AreKept, IsSettled, IsVisited, IsPassed}
+use Rattle.vmv_forward.proofs.Sets.{get_same, get_other}
+use Rattle.vmv_forward.proofs.Visiting.{settled_here}
 use Rattle.vmv_forward.proofs.Reading.{Reads, proc_inside, input_over}
 
 abbrev pub storage : Quest → List Zone → List Zone → List Cond → List Bool → Stored
@@ -31,7 +33,6 @@ path_with proc caller place callees keeps inputs results unproved =
 pub record Raised (q : Quest) (proc : ProcId) (input : Zone) (k i : List Zone) (r : List Cond) (u : List Bool) (k' i' : List Zone) (u' : List Bool) (range : Cond) (raised : Bool) (s s' : ℕ) : Type 0 where
   pub keeps_stay : IsFalse raised → k' ≡ k
   pub inputs_stay : IsFalse raised → i' ≡ i
-  pub settled : IsFalse raised → (item : Item) (code : Code) → IsProc q.program proc.0 item code → Settles (storage q k' i' r u') item code input range
   pub fits : (item : Item) (code : Code) → IsProc q.program proc.0 item code → Fits q.program q.thresholds item code (storage q k' i' r u')
   pub keeps_rise : AreBelow k k'
   pub inputs_rise : AreBelow i i'
@@ -47,7 +48,6 @@ passed_same q proc caller place callees input k i r u k' i' u' range raised s s'
       shape = record { proc = refl; caller = refl; place = refl; callees = refl; results = refl };
       keeps_stay = h.keeps_stay;
       inputs_stay = h.inputs_stay;
-      settled = h.settled;
       fits = h.fits;
       keeps_rise = h.keeps_rise;
       inputs_rise = h.inputs_rise;
@@ -127,3 +127,61 @@ made_of q xs j v d d1 d2 new last input range raised s s' r has passed last_is =
       passed = subst (λ (x : Path). IsPassed q input x new range raised s s') (sym (element xs j v d1 r.at)) passed;
       changed = ap (λ (x : Path). slice_set (slice_set xs j new) v.caller x) (last_is ∙ ap (λ (x : Path). record x { results = slice_set x.results v.place range }) (sym there));
     }
+
+-- the instance that was visited has settled, where the walk holds over what is stored behind the pass
+pub settled_of : (q : Quest) (xs : List Path) (j : ℕ) (v d d1 d2 new last : Path) (input : Zone) (range : Cond) (raised : Bool) (s s' : ℕ) → AreKept q xs → 1 ≤ j → Reads q xs j v → slice_get (get_or xs v.caller d).inputs v.place ≡ Some input →
+    IsPassed q input (get_or xs j d1) new range raised s s' →
+    last ≡ record (get_or (slice_set xs j new) v.caller d2) { results = slice_set (get_or (slice_set xs j new) v.caller d2).results v.place range } →
+    ((item : Item) (code : Code) → IsProc q.program (get_or xs j d1).proc.0 item code → Settles (stored_of q.assumed new) item code input range) →
+    IsSettled q (slice_set (slice_set xs j new) v.caller last) j
+settled_of q xs j v d d1 d2 new last input range raised s s' kept one r has passed last_is settles =
+    let here = element xs v.caller r.caller d r.there in
+    let there = element (slice_set xs j new) v.caller r.caller d2 (still_there q xs j v new r) in
+    let own : v ≡ get_or xs j d1 = element xs j v d1 r.at in
+    let visit : IsVisited q xs j raised s (slice_set (slice_set xs j new) v.caller last) s' = record {
+      old = v;
+      old_is = r.at;
+      caller = r.caller;
+      caller_is = r.there;
+      input = input;
+      input_is = subst (λ (x : Path). slice_get x.inputs v.place ≡ Some input) (sym here) has;
+      new = new;
+      range = range;
+      passed = subst (λ (x : Path). IsPassed q input x new range raised s s') (sym own) passed;
+      changed = ap (λ (x : Path). slice_set (slice_set xs j new) v.caller x) (last_is ∙ ap (λ (x : Path). record x { results = slice_set x.results v.place range }) (sym there));
+    } in
+    settled_here q xs j raised s (slice_set (slice_set xs j new) v.caller last) s' (record { visited = visit; before = r.before; called = r.called }) one kept.grown
+    (λ item code is. settles item code (subst (λ (x : Path). IsProc q.program x.proc.0 item code) own is))
+
+-- what a pass tells of the inputs of the instance that it changed
+pub told_of : (q : Quest) (xs : List Path) (j : ℕ) (v d new last : Path) (risen risen' : List Bool) → Reads q xs j v → AreTold (get_or xs j d).inputs risen new.inputs risen' → (one other : Path) → slice_get xs j ≡ Some one →
+    slice_get (slice_set (slice_set xs j new) v.caller last) j ≡ Some other → AreTold one.inputs risen other.inputs risen'
+told_of q xs j v d new last risen risen' r told one other at at' =
+    let here : slice_get (slice_set (slice_set xs j new) v.caller last) j ≡ Some new = get_other (slice_set xs j new) v.caller j last (λ e. (let b = r.before in omega arith)) ∙ get_same xs j new (within xs j v r.at) in
+    let first : get_or xs j d ≡ one = sym (element xs j one d at) in
+    let second : new ≡ other = some_same (sym here ∙ at') in
+    subst (λ (x : Path). AreTold x.inputs risen other.inputs risen') first (subst (λ (x : Path). AreTold (get_or xs j d).inputs risen x.inputs risen') second told)
+
+set_itself : {X : Type 0} (xs : List X) (i : ℕ) (x : X) → slice_get xs i ≡ Some x → slice_set xs i x ≡ xs
+set_itself [] i x e = refl
+set_itself (y ∷ xs) zero x e = ap (λ z. z ∷ xs) (sym (some_same e))
+set_itself (y ∷ xs) (suc i) x e = ap (λ l. y ∷ l) (set_itself xs i x e)
+
+results_same : (p : Path) (results : List Cond) → results ≡ p.results → record p { results = results } ≡ p
+results_same p results e = ap (λ (l : List Cond). record p { results = l }) e
+
+-- the caller is as it was where the result is
+pub same_of : (q : Quest) (xs : List Path) (j : ℕ) (v d new last : Path) (range : Cond) → Reads q xs j v →
+    last ≡ record (get_or (slice_set xs j new) v.caller d) { results = slice_set (get_or (slice_set xs j new) v.caller d).results v.place range } →
+    slice_get (get_or (slice_set xs j new) v.caller d).results v.place ≡ Some range → (path : Path) → slice_get xs j ≡ Some path →
+    slice_get (slice_set (slice_set xs j new) v.caller last) path.caller ≡ slice_get xs path.caller
+same_of q xs j v d new last range r last_is there path at =
+    let zs : List Path = slice_set xs j new in
+    let given : Path = get_or zs v.caller d in
+    let one : v ≡ path = some_same (sym r.at ∙ at) in
+    let still : slice_get zs v.caller ≡ Some r.caller = still_there q xs j v new r in
+    let same : r.caller ≡ given = element zs v.caller r.caller d still in
+    let as_given : last ≡ given = last_is ∙ results_same given (slice_set given.results v.place range) (set_itself given.results v.place range there) in
+    let put : slice_get (slice_set zs v.caller last) v.caller ≡ Some last = get_same zs v.caller last (within zs v.caller r.caller still) in
+    let whole : slice_get (slice_set zs v.caller last) v.caller ≡ slice_get xs v.caller = put ∙ (ap (λ (x : Path). Some x) (as_given ∙ sym same) ∙ sym r.there) in
+    subst (λ (x : Path). slice_get (slice_set zs v.caller last) x.caller ≡ slice_get xs x.caller) one whole

@@ -1,5 +1,5 @@
 -- What a visit of an instance changes, and what it leaves.
-use Rattle.vmv_zone.proofs.Equal.{by_truth, clash, below_both}
+use Rattle.vmv_zone.proofs.Equal.{by_truth}
 use Rattle.std.proofs.Common.{◌≡◌, ◌⊎◌, inl, inr, ⊎_elim, ℕ, zero, suc, ◌+◌, ◌<◌, ◌≤◌, ℤ, Bool, Some, List, [], ◌∷◌, length, slice_get, IsTrue, IsFalse, refl, sym, ap, subst, arith, ◌∙◌}
 use Rattle.std.specs.Prelude.{slice_set, sum_by}
 use Rattle.std.specs.List.{All, AllZip}
@@ -10,7 +10,7 @@ use Rattle.vmv_snapshot.specs.declared.code.Code.{Code}
 use Rattle.vmv_snapshot.specs.declared.code.ProcId.{ProcId}
 use Rattle.vmv_snapshot.specs.View.{code_of}
 use Rattle.vmv_zone.specs.declared.zone.Zone.{Zone}
-use Rattle.vmv_zone.specs.Zone.{vars_of, IsBottom, IsBelow, IsNormal}
+use Rattle.vmv_zone.specs.Zone.{vars_of, IsBelow, IsNormal}
 use Rattle.vmv_zone.specs.Round.{IsThresholdState}
 use Rattle.vmv_check.specs.Walker.{HasParams}
 use Rattle.vmv_check.proofs.Lists.{some_same, within, item_at}
@@ -20,7 +20,7 @@ use Rattle.vmv_pass.specs.Room.{rooms, ranks}
 use Rattle.vmv_pass.specs.Upper.{IsProc, Fits, AreBelow}
 use Rattle.vmv_forward.specs.Path.{Path}
 use Rattle.vmv_forward.specs.Paths.{IsCallee, IsPlaced, IsGrown, loops_of}
-use Rattle.vmv_forward.specs.Rounds.{Quest, stored_of, HasInput, HasResult, AreFit, IsSettled, IsVisited, IsBottomAt, all_rooms, all_ranks, HaveFew}
+use Rattle.vmv_forward.specs.Rounds.{Quest, stored_of, HasInput, HasResult, AreFit, IsSettled, IsVisited, all_rooms, all_ranks, HaveFew}
 use Rattle.vmv_forward.proofs.Sets.{get_same, get_other, length_set, sum_set, zip_at}
 use Rattle.vmv_forward.proofs.States.{below_same}
 
@@ -309,9 +309,10 @@ range_is q xs j raised s ys s' v i path path' result' e placed m (caller', there
     let inside = within given.results o.old.place result' at'' in
     some_same (sym at'' ∙ get_same o.caller.results o.old.place o.range (omega arith))
 
--- where nothing was raised, the instance that was visited has settled
-pub settled_here : (q : Quest) (xs : List Path) (j : ℕ) (raised : Bool) (s : ℕ) (ys : List Path) (s' : ℕ) (v : Seen q xs j raised s ys s') → 1 ≤ j → IsGrown q.program q.entry xs → IsFalse raised → IsSettled q ys j
-settled_here q xs j raised s ys s' v from grown still path input result item code at has given is =
+-- the instance that was visited has settled, where the walk holds over what is stored behind the pass
+pub settled_here : (q : Quest) (xs : List Path) (j : ℕ) (raised : Bool) (s : ℕ) (ys : List Path) (s' : ℕ) (v : Seen q xs j raised s ys s') → 1 ≤ j → IsGrown q.program q.entry xs →
+    ((item : Item) (code : Code) → IsProc q.program v.visited.old.proc.0 item code → Settles (stored_of q.assumed v.visited.new) item code v.visited.input v.visited.range) → IsSettled q ys j
+settled_here q xs j raised s ys s' v from grown settles path input result item code at has given is =
     let o = v.visited in
     let b = back q xs j raised s ys s' v j path at in
     let old : b.0 ≡ o.old = some_same (sym b.1 ∙ o.old_is) in
@@ -322,19 +323,20 @@ settled_here q xs j raised s ys s' v from grown still path input result item cod
     let taken : before.input ≡ o.input = some_same (sym (subst (λ (x : Path). slice_get x.inputs o.old.place ≡ Some before.input) caller mine.2) ∙ o.input_is) in
     let is' = subst (λ (x : Path). IsProc q.program x.proc.0 item code) old (subst (λ (n : ProcId). IsProc q.program n.0 item code) b.2.proc is) in
     let range : result ≡ o.range = range_is q xs j raised s ys s' v j b.0 path result refl (grown.placed j b.0 from b.1) b.2 given in
-    let body = o.passed.settled still item code is' in
+    let off : b.0.caller ≡ j → ⊥ = λ e. (let p = v.before in let f : b.0.caller ≡ o.old.caller = ap (λ (x : Path). x.caller) old in omega arith) in
+    let body = settles item code is' in
     let b1 = subst (λ (x : Path). Settles (stored_of q.assumed x) item code o.input o.range) new body in
-    let b2 = subst (λ (z : Zone). Settles (stored_of q.assumed path) item code z o.range) (sym (before.stay still ∙ taken)) b1 in
+    let b2 = subst (λ (z : Zone). Settles (stored_of q.assumed path) item code z o.range) (sym (before.apart off ∙ taken)) b1 in
     subst (λ (c : Cond). Settles (stored_of q.assumed path) item code input c) (sym range) b2
 
--- an instance stays settled that isn't the one that was visited, nor its caller, nor one that it calls with an input that isn't Bottom where
--- something was raised
-pub settled_stays : (q : Quest) (xs : List Path) (j : ℕ) (raised : Bool) (s : ℕ) (ys : List Path) (s' : ℕ) (v : Seen q xs j raised s ys s') (k : ℕ) → 1 ≤ k → (k ≡ j → ⊥) → (k ≡ v.visited.old.caller → ⊥) →
-    (IsTrue raised → (c : ℕ) → slice_get v.visited.old.callees c ≡ Some k → IsBottomAt v.visited.new.inputs c) → IsGrown q.program q.entry xs → IsSettled q xs k → IsSettled q ys k
-settled_stays q xs j raised s ys s' v k from apart off uncalled grown settled path' input result item code at has given is =
+-- An instance stays settled that isn't the one that was visited: where it is the caller, it is as it was, and where it is
+-- called, its input is.
+pub settled_stays : (q : Quest) (xs : List Path) (j : ℕ) (raised : Bool) (s : ℕ) (ys : List Path) (s' : ℕ) (v : Seen q xs j raised s ys s') (k : ℕ) → 1 ≤ k → (k ≡ j → ⊥) → (k ≡ v.visited.old.caller → slice_get ys k ≡ slice_get xs k) →
+    (IsTrue raised → (c : ℕ) → slice_get v.visited.old.callees c ≡ Some k → slice_get v.visited.new.inputs c ≡ slice_get v.visited.old.inputs c) → IsGrown q.program q.entry xs → IsSettled q xs k → IsSettled q ys k
+settled_stays q xs j raised s ys s' v k from apart still uncalled grown settled path' input result item code at has given is =
     let o = v.visited in
     let b = back q xs j raised s ys s' v k path' at in
-    let same : path' ≡ b.0 = b.2.same apart off in
+    let same : path' ≡ b.0 = ⊎_elim (λ (e : k ≡ o.old.caller). some_same (sym at ∙ (still e ∙ b.1))) (λ (n : k ≡ o.old.caller → ⊥). b.2.same apart n) (cases_eq k o.old.caller) in
     let before = input_before q xs j raised s ys s' v k b.0 path' input b.2 has in
     let is' = subst (λ (n : ProcId). IsProc q.program n.0 item code) b.2.proc is in
     let placed = grown.placed k b.0 from b.1 in
@@ -346,12 +348,12 @@ settled_stays q xs j raised s ys s' v k from apart off uncalled grown settled pa
     (λ h. ⊎_elim (λ (e : b.0.caller ≡ j).
     let here : placed.caller ≡ o.old = some_same (sym placed.there ∙ (ap (slice_get xs) e ∙ o.old_is)) in
     let called = subst (λ (x : Path). slice_get x.callees b.0.place ≡ Some k) here placed.called in
-    let none = uncalled h b.0.place called in
     let new : has.0 ≡ o.new = some_same (sym has.1 ∙ (ap (slice_get ys) (b.2.caller ∙ e) ∙ new_at q xs j raised s ys s' v)) in
     let there : slice_get has.0.inputs b.0.place ≡ Some input = subst (λ n. slice_get has.0.inputs n ≡ Some input) b.2.place_is has.2 in
-    let mine : slice_get o.new.inputs b.0.place ≡ Some input = subst (λ (x : Path). slice_get x.inputs b.0.place ≡ Some input) new there in
-    let empty : IsBottom input = subst IsBottom (some_same (sym none.1 ∙ mine)) none.2 in
-    below_both input before.input before.vars (λ up. clash input.bottom empty up) before.below)
+    let now : slice_get o.new.inputs b.0.place ≡ Some input = subst (λ (x : Path). slice_get x.inputs b.0.place ≡ Some input) new there in
+    let first : before.has.0 ≡ o.old = some_same (sym before.has.1 ∙ (ap (slice_get xs) e ∙ o.old_is)) in
+    let past : slice_get o.old.inputs b.0.place ≡ Some before.input = subst (λ (x : Path). slice_get x.inputs b.0.place ≡ Some before.input) first before.has.2 in
+    some_same (sym now ∙ (uncalled h b.0.place called ∙ past)))
     (λ (n : b.0.caller ≡ j → ⊥). before.apart n) (cases_eq b.0.caller j))
     (λ h. before.stay h) in
     subst (λ (z : Zone). Settles (stored_of q.assumed path') item code z result) (sym stays) b1

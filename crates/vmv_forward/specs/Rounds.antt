@@ -1,12 +1,12 @@
--- Rounds over the instances, which raise what is stored for them.
-use Rattle.std.specs.Prelude.{◌≡◌, ℕ, ◌+◌, ◌<◌, ◌≤◌, ℤ, Bool, Option, Some, List, [], ◌∷◌, length, slice_get, slice_set, sum_by, IsTrue, IsFalse, false}
+-- Visits of the instances, which raise what is stored for them.
+use Rattle.std.specs.Prelude.{◌≡◌, ℕ, ◌+◌, ◌<◌, ◌≤◌, ℤ, Bool, Option, Some, List, [], ◌∷◌, length, slice_get, slice_set, sum_by, IsTrue, IsFalse}
 use Rattle.std.specs.List.{All, Contains}
 use Rattle.vmv_tree.specs.Tree.{Item}
 use Rattle.vmv_cond.specs.declared.cond.Cond.{Cond}
 use Rattle.vmv_snapshot.specs.declared.code.Code.{Code}
 use Rattle.vmv_snapshot.specs.Resolution.{Resolution, IsResolution}
 use Rattle.vmv_zone.specs.declared.zone.Zone.{Zone}
-use Rattle.vmv_zone.specs.Zone.{vars_of, IsBottom, IsBelow, IsNormOf, IsNormal}
+use Rattle.vmv_zone.specs.Zone.{vars_of, IsBelow, IsNormOf, IsNormal}
 use Rattle.vmv_zone.specs.Round.{IsThresholdState}
 use Rattle.vmv_assumption.specs.Assumed.{Assumed, cond_of}
 use Rattle.vmv_cert.specs.declared.row.Row.{Row}
@@ -19,6 +19,8 @@ use Rattle.vmv_pass.specs.Room.{rooms, ranks}
 use Rattle.vmv_pass.specs.Upper.{IsProc, AreScale, Fits, AreBelow, IsUnder, IsUpper}
 use Rattle.vmv_forward.specs.Path.{Path}
 use Rattle.vmv_forward.specs.Paths.{IsGrown}
+use Rattle.vmv_forward.specs.Waiting.{AreRoom}
+use Rattle.vmv_links.specs.Lists.{Lists, IsListed}
 use Rattle.vmv_forward.specs.declared.rounds.Search.{Search}
 
 -- what is searched for: the program, the entry's number and its input, under what is assumed, over the thresholds
@@ -145,7 +147,6 @@ pub record IsPassed (q : Quest) (input : Zone) (old new : Path) (range : Cond) (
   pub shape : IsSameShape old new
   pub keeps_stay : IsFalse raised → new.keeps ≡ old.keeps
   pub inputs_stay : IsFalse raised → new.inputs ≡ old.inputs
-  pub settled : IsFalse raised → (item : Item) (code : Code) → IsProc q.program old.proc.0 item code → Settles (stored_of q.assumed new) item code input range
   pub fits : (item : Item) (code : Code) → IsProc q.program old.proc.0 item code → Fits q.program q.thresholds item code (stored_of q.assumed new)
   pub keeps_rise : AreBelow old.keeps new.keeps
   pub inputs_rise : AreBelow old.inputs new.inputs
@@ -168,32 +169,16 @@ pub record IsVisited (q : Quest) (paths : List Path) (j : ℕ) (raised : Bool) (
   pub passed : IsPassed q input old new range raised steps steps'
   pub changed : paths' ≡ slice_set (slice_set paths j new) old.caller (record caller { results = slice_set caller.results old.place range })
 
--- each instance that hasn't to be visited again is settled
-pub record AreDue (q : Quest) (paths : List Path) (due : List Bool) : Type 0 where
-  pub count : length due ≡ length paths
-  pub others : (k : ℕ) → 1 ≤ k → slice_get due k ≡ Some false → IsSettled q paths k
+-- each instance that isn't in a list is settled
+pub record AreWaiting (q : Quest) (paths : List Path) (waiting : Lists) : Type 0 where
+  pub size : waiting.size ≡ length paths
+  pub room : AreRoom waiting
+  pub from : (k : ℕ) → IsListed waiting.lists k → 1 ≤ k
+  pub others : (k : ℕ) → 1 ≤ k → (IsListed waiting.lists k → ⊥) → IsSettled q paths k
 
--- no instance from this number on has to be visited again
-abbrev pub AreDone : List Bool → ℕ → Type 0
-AreDone due number = (k : ℕ) → number ≤ k → k < length due → slice_get due k ≡ Some false
-
--- the input of the call of this place is Bottom
-abbrev pub IsBottomAt : List Zone → ℕ → Type 0
-IsBottomAt inputs c = (input : Zone) × (slice_get inputs c ≡ Some input) × IsBottom input
-
--- of these, those whose inputs aren't Bottom have to be visited too
-pub record AreCalledDue (callees : List ℕ) (inputs : List Zone) (due due' : List Bool) : Type 0 where
-  pub count : length due' ≡ length due
-  pub before : (k : ℕ) → slice_get due' k ≡ Some false → slice_get due k ≡ Some false
-  pub uncalled : (k c : ℕ) → slice_get due' k ≡ Some false → slice_get callees c ≡ Some k → IsBottomAt inputs c
-
--- behind a visit its caller has to be visited again, and where something was raised the instance and those that it
--- calls with inputs that aren't Bottom
-pub record AreMarked (path : Path) (number : ℕ) (raised : Bool) (due due' : List Bool) : Type 0 where
-  pub count : length due' ≡ length due
-  pub here : slice_get due' number ≡ Some false → IsFalse raised
-  pub caller : slice_get due' path.caller ≡ Some false → ⊥
-  pub uncalled : (k c : ℕ) → slice_get due' k ≡ Some false → IsTrue raised → slice_get path.callees c ≡ Some k → IsBottomAt path.inputs c
-  pub before : (k : ℕ) → slice_get due' k ≡ Some false → (k ≡ number → ⊥) → slice_get due k ≡ Some false
-  pub done : IsFalse raised → slice_get due' number ≡ Some false
-  pub after : IsFalse raised → (k : ℕ) → number < k → slice_get due k ≡ Some false → slice_get due' k ≡ Some false
+-- each instance that isn't in a list is settled, but for instance j, which was taken out to be visited
+pub record AreWaitingBut (q : Quest) (paths : List Path) (waiting : Lists) (j : ℕ) : Type 0 where
+  pub size : waiting.size ≡ length paths
+  pub room : AreRoom waiting
+  pub from : (k : ℕ) → IsListed waiting.lists k → 1 ≤ k
+  pub others : (k : ℕ) → 1 ≤ k → (k ≡ j → ⊥) → (IsListed waiting.lists k → ⊥) → IsSettled q paths k

@@ -1,4 +1,4 @@
-ghost use Rattle.std.specs.Prelude.{◌≡◌, ◌++◌, ◌∷◌, [], ◌<◌, Some, length, slice_get, slice_set, OnOk};
+ghost use Rattle.std.specs.Prelude.{◌≡◌, ◌++◌, ◌∷◌, [], ◌<◌, Some, length, slice_get, slice_set, IsTrue, IsFalse, OnOk};
 
 use std::alloc::AllocError;
 use std::marker::Model;
@@ -27,6 +27,29 @@ impl Model for Instance {
     ghost view = { λ x. record { proc = x.proc; caller = x.caller; place = x.place; callees = x.callees.items; keeps = x.keeps.items; inputs = x.inputs.items; results = x.results.items; unproved = x.unproved.items } };
 }
 
+/// Whether both are true or both are false.
+fn agree(one: bool, other: bool) -> bool
+    ensures { IsTrue result → one ≡ other }
+{
+    if one { other } else { !other }
+}
+
+/// Whether the two don't hold the same words.
+fn is_other(one: Cond, other: Cond) -> bool
+    ensures { IsFalse result → one ≡ other }
+{
+    if one.lo() != other.lo() {
+        return true;
+    }
+    if one.hi() != other.hi() {
+        return true;
+    }
+    if agree(one.zero_out(), other.zero_out()) {
+        return false;
+    }
+    true
+}
+
 impl Instance {
     /// The input that is stored for the call of this place.
     pub(crate) fn input(&self, place: usize) -> &Zone
@@ -44,12 +67,15 @@ impl Instance {
         self.results[place]
     }
 
-    /// Stores the result of the call of this place.
-    pub(crate) fn set_result(&mut self, place: usize, range: Cond)
+    /// Stores the result of the call of this place. Answers whether it is another one than before.
+    pub(crate) fn take_result(&mut self, place: usize, range: Cond) -> bool
         requires { place < length self.old.results }
-        ensures { self.new ≡ record self.old { results = slice_set self.old.results place range } }
+        ensures taken { self.new ≡ record self.old { results = slice_set self.old.results place range } }
+        ensures same { IsFalse result → slice_get self.old.results place ≡ Some range }
     {
+        let before = self.results[place];
         self.results[place] = range;
+        is_other(before, range)
     }
 
     /// Adds the instance of the next call.

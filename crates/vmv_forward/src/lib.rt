@@ -1,8 +1,8 @@
 //! The least accepted table of an entry and a box.
 //!
 //! One instance of a procedure stands for each path of calls that leads from the entry to it. The states that are kept for
-//! the instances start at Bottom and are raised in rounds, until a round raises nothing. What they are then is the least
-//! accepted table.
+//! the instances start at Bottom and are raised. An instance is visited again where its input, a result of its calls or a
+//! state at its loops has risen, until none is left. What the states are then is the least accepted table.
 #![tactic(auto)]
 
 mod boxes;
@@ -15,6 +15,7 @@ mod lay;
 mod rounds;
 mod row;
 mod table;
+mod waiting;
 
 pub use decided::{death, least_table, unproved_sites};
 pub use laws::{

@@ -1,19 +1,23 @@
 ghost use Rattle.std.specs.Prelude.{◌≡◌, ◌<◌, ◌≤◌, ◌+◌, ◌≢◌, ℕ, Some, length, slice_get, IsTrue, IsFalse};
-ghost use Rattle.std.specs.List.{All};
 ghost use Rattle.vmv_tree.specs.Tree.{Item};
 ghost use Rattle.vmv_snapshot.specs.declared.code.Code.{Code};
 ghost use Rattle.vmv_snapshot.specs.Procs.{params_of};
 ghost use Rattle.vmv_snapshot.specs.Resolution.{procs_of};
 ghost use Rattle.vmv_zone.specs.Zone.{vars_of};
 ghost use Rattle.vmv_pass.specs.Upper.{IsProc, AreScale, Fits};
+ghost use Rattle.vmv_pass.specs.Holds.{Settles};
+ghost use Rattle.vmv_pass.specs.Told.{AreTold};
 ghost use Rattle.vmv_forward.specs.Path.{Path};
 ghost use Rattle.vmv_forward.specs.Paths.{loops_of};
-ghost use Rattle.vmv_forward.specs.Rounds.{quest_of, stored_of, AreKept, HasInput, HasResult, IsSettled, IsPassed, IsVisited, AreDue, AreDone, AreCalledDue, IsBottomAt, AreMarked, HaveFew, all_rooms, all_ranks};
+ghost use Rattle.vmv_forward.specs.Rounds.{quest_of, stored_of, AreKept, HasInput, HasResult, IsSettled, IsPassed, IsVisited, AreWaiting, AreWaitingBut, HaveFew, all_rooms, all_ranks};
+ghost use Rattle.vmv_forward.specs.Waiting.{load, AreDone};
 
 use crate::instance::Instance;
+use crate::waiting::{next, put_again, put_caller, put_raised};
 use std::sync::ledger::Ledger;
 use vmv_assumption::Assumption;
 use vmv_cond::Cond;
+use vmv_links::Links;
 use vmv_pass::{Passed, Place, Spare, Steps, raise};
 use vmv_snapshot::{ProcId, Snapshot};
 use vmv_zone::Zone;
@@ -26,6 +30,17 @@ pub(crate) struct Search<'a> {
     pub(crate) input: &'a Zone,
     pub(crate) assumed: &'a Assumption,
     pub(crate) thresholds: &'a [i128],
+}
+
+/// What a visit answers.
+#[derive(Drop)]
+struct Visited {
+    /// Whether something that is stored for the instance was raised.
+    raised: bool,
+    /// Whether that was a state at a loop.
+    looped: bool,
+    /// Whether the range of what it returns isn't the one that was stored.
+    changed: bool,
 }
 
 /// The input that is stored for an instance, with its caller.
@@ -56,11 +71,12 @@ pub(crate) fn result_of(search: &Search<'_>, instances: &[Instance], number: usi
     instances[caller].result_of(instance.place)
 }
 
-/// One pass over the instance's procedure, from its input.
+/// One pass over the instance's procedure, from its input. Of each call whose input is raised the flag is set.
 fn pass<L: Ledger>(
     search: &Search<'_>,
     instance: &mut Instance,
     input: &Zone,
+    risen: &mut [bool],
     steps: &mut Steps<L>,
     spare: &mut Spare,
 ) -> Passed
@@ -68,7 +84,10 @@ fn pass<L: Ledger>(
     requires scale { AreScale search.now.thresholds.now }
     requires input { (item : Item) (code : Code) → IsProc search.now.snapshot.now instance.old.proc.0 item code → vars_of input.now ≡ length (params_of item) }
     requires fits { (item : Item) (code : Code) → IsProc search.now.snapshot.now instance.old.proc.0 item code → Fits search.now.snapshot.now search.now.thresholds.now item code (stored_of (quest_of search.now).assumed instance.old) }
-    ensures { IsPassed (quest_of search.now) input.now instance.old instance.new result.range result.raised steps.old steps.new }
+    ensures passed { IsPassed (quest_of search.now) input.now instance.old instance.new result.range result.raised steps.old steps.new }
+    ensures looped { IsFalse result.raised → IsFalse result.looped }
+    ensures settled { IsFalse result.looped → (item : Item) (code : Code) → IsProc search.now.snapshot.now instance.old.proc.0 item code → Settles (stored_of (quest_of search.now).assumed instance.new) item code input.now result.range }
+    ensures told { AreTold instance.old.inputs risen.old instance.new.inputs risen.new }
 {
     let place = Place {
         snapshot: search.snapshot,
@@ -82,18 +101,65 @@ fn pass<L: Ledger>(
         &place,
         instance.keeps.as_mut_slice(),
         instance.inputs.as_mut_slice(),
+        risen,
         instance.unproved.as_mut_slice(),
         steps,
         spare,
     )
 }
 
-/// Passes over an instance from the input that its caller has for it, and gives the range to the caller. Answers whether
-/// something that is stored was raised. The input is copied out meanwhile.
+/// Passes over an instance from the input that its caller has for it, and gives the range to the caller. Of each of its
+/// calls whose input is raised the flag is set. The input is copied out meanwhile.
 fn visit<L: Ledger>(
     search: &Search<'_>,
     instances: &mut [Instance],
     number: usize,
+    risen: &mut [bool],
+    steps: &mut Steps<L>,
+    input: &mut Zone,
+    spare: &mut Spare,
+) -> Visited
+    requires from { 1 ≤ number }
+    requires to { number < length instances.old }
+    requires kept { AreKept (quest_of search.now) instances.old }
+    ensures visited { IsVisited (quest_of search.now) instances.old number result.raised steps.old instances.new steps.new }
+    ensures looped { IsFalse result.raised → IsFalse result.looped }
+    ensures settled { IsFalse result.looped → IsSettled (quest_of search.now) instances.new number }
+    ensures told { (old new : Path) → slice_get instances.old number ≡ Some old → slice_get instances.new number ≡ Some new → AreTold old.inputs risen.old new.inputs risen.new }
+    ensures same { IsFalse result.changed → (path : Path) → slice_get instances.old number ≡ Some path → slice_get instances.new path.caller ≡ slice_get instances.old path.caller }
+{
+    let instance = &instances[number];
+    let caller = instance.caller;
+    let place = instance.place;
+    input.copy_from(instances[caller].input(place));
+    let passed = pass(search, &mut instances[number], input, risen, steps, spare);
+    let range = passed.range;
+    let changed = instances[caller].take_result(place, range);
+    Visited {
+        raised: passed.raised,
+        looped: passed.looped,
+        changed,
+    }
+}
+
+/// Clears so many flags from the first on.
+fn clear(flags: &mut [bool], count: usize) {
+    for i in 0..count {
+        if i < flags.len() {
+            flags[i] = false;
+        }
+    }
+}
+
+/// Visits an instance that was taken off its list, and puts in a list those that have to be visited again: those that it
+/// calls with inputs that were raised, the instance itself where a state at a loop was, and its caller where it returns
+/// something else. Answers whether something that is stored was raised.
+fn turn<L: Ledger>(
+    search: &Search<'_>,
+    instances: &mut [Instance],
+    number: usize,
+    waiting: &mut Links,
+    risen: &mut [bool],
     steps: &mut Steps<L>,
     input: &mut Zone,
     spare: &mut Spare,
@@ -101,100 +167,71 @@ fn visit<L: Ledger>(
     requires from { 1 ≤ number }
     requires to { number < length instances.old }
     requires kept { AreKept (quest_of search.now) instances.old }
-    ensures { IsVisited (quest_of search.now) instances.old number result steps.old instances.new steps.new }
+    requires waiting { AreWaitingBut (quest_of search.now) instances.old waiting.old number }
+    ensures kept { AreKept (quest_of search.now) instances.new }
+    ensures waiting { AreWaiting (quest_of search.now) instances.new waiting.new }
+    ensures falls { IsTrue result → all_rooms instances.new < all_rooms instances.old }
+    ensures stays { IsFalse result → all_rooms instances.new ≡ all_rooms instances.old }
+    ensures load { IsFalse result → load waiting.new < load waiting.old + number }
+    ensures few { HaveFew instances.old → HaveFew instances.new }
+    ensures loops { loops_of instances.new ≡ loops_of instances.old }
+    ensures cost { steps.new + all_ranks search.now.thresholds.now instances.old ≤ steps.old + all_ranks search.now.thresholds.now instances.new }
 {
+    let before = &instances[number];
+    clear(risen, before.callees.len());
+    let seen = visit(search, instances, number, risen, steps, input, spare);
     let instance = &instances[number];
     let caller = instance.caller;
-    let place = instance.place;
-    input.copy_from(instances[caller].input(place));
-    let passed = pass(search, &mut instances[number], input, steps, spare);
-    instances[caller].set_result(place, passed.range);
-    passed.raised
+    put_raised(instance.callees.as_slice(), seen.raised, risen, waiting);
+    put_again(number, seen.looped, waiting);
+    put_caller(caller, seen.changed, waiting);
+    seen.raised
 }
 
-/// Whether the input of the call of this place isn't Bottom, so far as is known.
-fn is_entered(inputs: &[Zone], place: usize) -> bool
-    ensures { IsFalse result → IsBottomAt inputs.now place }
-{
-    match inputs.get(place) {
-        Some(input) => !input.is_bottom(),
-        None => true,
-    }
-}
-
-/// Those of these have to be visited whose inputs aren't Bottom.
-fn mark_called(callees: &[usize], inputs: &[Zone], due: &mut [bool])
-    requires { All (λ k. k < length due.old) callees.now }
-    ensures { AreCalledDue callees.now inputs.now due.old due.new }
-{
-    for (c, callee) in callees.iter().enumerate() {
-        if is_entered(inputs, c) {
-            due[*callee] = true;
-        }
-    }
-}
-
-/// Marks the instances that have to be visited behind a visit of this one: its caller, and, where something was raised, the
-/// instance itself and those that it calls with inputs that aren't Bottom.
-fn mark(instance: &Instance, number: usize, raised: bool, due: &mut [bool])
-    requires inside { number < length due.old }
-    requires caller { instance.now.caller < number }
-    requires callees { All (λ k. k < length due.old) instance.now.callees }
-    ensures { AreMarked instance.now number raised due.old due.new }
-{
-    due[number] = raised;
-    due[instance.caller] = true;
-    if raised {
-        mark_called(instance.callees.as_slice(), instance.inputs.as_slice(), due);
-    }
-}
-
-/// Visits those of the instances that have to be visited, those that are called before their callers. Answers whether
-/// something that is stored was raised. The visits work in the other states.
-fn round<L: Ledger>(
+/// Visits instances that are in a list, until something that is stored is raised or none is left. Answers whether
+/// something was raised. The visits work in the other states.
+fn sweep<L: Ledger>(
     search: &Search<'_>,
     instances: &mut [Instance],
-    due: &mut [bool],
+    waiting: &mut Links,
+    risen: &mut [bool],
     steps: &mut Steps<L>,
     input: &mut Zone,
     spare: &mut Spare,
 ) -> bool
     requires kept { AreKept (quest_of search.now) instances.old }
-    requires due { AreDue (quest_of search.now) instances.old due.old }
+    requires waiting { AreWaiting (quest_of search.now) instances.old waiting.old }
     ensures kept { AreKept (quest_of search.now) instances.new }
-    ensures due { AreDue (quest_of search.now) instances.new due.new }
-    ensures done { IsFalse result → AreDone due.new 1 }
+    ensures waiting { AreWaiting (quest_of search.now) instances.new waiting.new }
+    ensures done { IsFalse result → AreDone waiting.new }
     ensures falls { IsTrue result → all_rooms instances.new < all_rooms instances.old }
     ensures stays { IsFalse result → all_rooms instances.new ≡ all_rooms instances.old }
     ensures few { HaveFew instances.old → HaveFew instances.new }
     ensures loops { loops_of instances.new ≡ loops_of instances.old }
     ensures cost { steps.new + all_ranks search.now.thresholds.now instances.old ≤ steps.old + all_ranks search.now.thresholds.now instances.new }
 {
-    let mut raised = false;
-    let mut number = instances.len();
-    while number > 1 {
-        number -= 1;
-        if due[number] {
-            let rises = visit(search, instances, number, steps, input, spare);
-            mark(&instances[number], number, rises, due);
-            if rises {
-                raised = true;
-            }
+    while let Some(item) = next(waiting) {
+        let number = item as usize;
+        if turn(
+            search, instances, number, waiting, risen, steps, input, spare,
+        ) {
+            return true;
         }
     }
-    raised
+    false
 }
 
 /// Raises what is stored until the walks of all instances hold. An instance is visited where it isn't known to be settled:
-/// at first each.
+/// at first those that are in a list.
 pub(crate) fn settle<L: Ledger>(
     search: &Search<'_>,
     instances: &mut [Instance],
-    due: &mut [bool],
+    waiting: &mut Links,
+    risen: &mut [bool],
     steps: &mut Steps<L>,
 )
     requires kept { AreKept (quest_of search.now) instances.old }
-    requires due { AreDue (quest_of search.now) instances.old due.old }
+    requires waiting { AreWaiting (quest_of search.now) instances.old waiting.old }
     ensures kept { AreKept (quest_of search.now) instances.new }
     ensures settled { (j : ℕ) → 1 ≤ j → IsSettled (quest_of search.now) instances.new j }
     ensures few { HaveFew instances.old → HaveFew instances.new }
@@ -205,6 +242,8 @@ pub(crate) fn settle<L: Ledger>(
     let mut spare = Spare::new();
     let mut raised = true;
     while raised {
-        raised = round(search, instances, due, steps, &mut input, &mut spare);
+        raised = sweep(
+            search, instances, waiting, risen, steps, &mut input, &mut spare,
+        );
     }
 }

@@ -16,6 +16,7 @@ use crate::grow::instances_of;
 use crate::instance::Instance;
 use crate::lay::rows_in_order;
 use crate::rounds::{Search, settle};
+use crate::waiting::all_waiting;
 use sqlite_items::Items;
 use std::alloc::{AllocError, Global};
 use std::sync::ledger::Ledger;
@@ -60,7 +61,9 @@ pub fn least<L: Ledger>(
     let _program = snapshot.program();
     let input = box_state(within).norm();
     let mut found = instances_of(alloc, snapshot, entry, &input)?;
-    let mut due = vec![in alloc; true; found.len()]?;
+    let count = found.len();
+    let mut waiting = all_waiting(alloc, count)?;
+    let mut risen = vec![in alloc; false; count]?;
     let search = Search {
         snapshot,
         entry,
@@ -68,6 +71,12 @@ pub fn least<L: Ledger>(
         assumed,
         thresholds: thresholds.as_slice(),
     };
-    settle(&search, found.as_mut_slice(), due.as_mut_slice(), steps);
+    settle(
+        &search,
+        found.as_mut_slice(),
+        &mut waiting,
+        risen.as_mut_slice(),
+        steps,
+    );
     table_of(alloc, &search, found.as_slice())
 }

@@ -33,13 +33,13 @@ use Rattle.vmv_pass.specs.Source.{Stored, Source, by_row, by_stored, input_in, r
 use Rattle.vmv_pass.specs.Holds.{Settles}
 use Rattle.vmv_pass.specs.Upper.{IsProc, Fits, AreBelow, IsUnder, IsUpper}
 use Rattle.vmv_pass.specs.Moves.{Given, Lists, MovesAll, AreCalled, HasKeeps, HaveSites}
-use Rattle.vmv_pass.proofs.Zips.{get_map}
+use Rattle.vmv_pass.proofs.Zips.{get_map, zip_same}
 use Rattle.vmv_pass.proofs.Codes.{AreKnown, block_sites, item_known, block_inside}
 use Rattle.vmv_pass.proofs.Moving.{Rule, Moved, moved_all}
-use Rattle.vmv_pass.proofs.Growing.{Counted, counts, Unchanged, stays, IsRise, Sound, Grown, Grows, grows}
+use Rattle.vmv_pass.proofs.Growing.{Counted, counts, Unchanged, stays, IsRise, rise_same, Sound, Grown, Grows, grows}
 use Rattle.vmv_pass.proofs.Under.{Setting, under_block}
 use Rattle.vmv_pass.proofs.Falling.{all_room, IsPaid, Falls, falls}
-use Rattle.vmv_pass.proofs.Settling.{block_settles}
+use Rattle.vmv_pass.proofs.Settling.{Begins, block_settles}
 use Rattle.vmv_pass.proofs.Calls.{AreAt}
 
 -- what is known of a procedure and its code
@@ -172,13 +172,20 @@ run_fits program item code given input start end range S S' run =
       unproved = g.unproved ∙ run.fits.unproved;
     }
 
-pub run_settles : (program : Resolution) (item : Item) (code : Code) (given : Given) (input start end : Zone) (range : Cond) (S S' : Lists) → Run program item code given input start end range S S' → IsFalse S'.raised →
+pub run_settles : (program : Resolution) (item : Item) (code : Code) (given : Given) (input start end : Zone) (range : Cond) (S S' : Lists) → Run program item code given input start end range S S' → IsFalse S'.looped →
     Settles (stored_in given S') item code input range
 run_settles program item code given input start end range S S' run still =
     let f = run_fits program item code given input start end range S S' run in
     let long = f.unproved in
     let count = run.facts.count in
-    let s = block_settles input range (stored_in given S') given 0 0 0 (block_of code.block) start end S S' refl refl run.facts.known (omega (arith, long, count)) (record { keeps = refl; inputs = refl; raised = still }) (λ i from to. refl) run.moves in
+    let begins : Begins code.vars (map vars_of S.inputs) given start S = record {
+      base = record { over = run.fits.over; inputs = refl };
+      sound = run_sound program item code given input start end range S S' run;
+      size = run.entered.vars;
+    } in
+    let s = block_settles program code.vars (map vars_of S.inputs) input range (stored_in given S') given 0 0 0 (block_of code.block) start end S S' run.facts.ready
+    (fits_called program (block_callees (block_of code.block)) S.inputs run.fits.inputs) begins refl refl run.facts.known (omega (arith, long, count))
+    (record { keeps = refl; inputs = zip_same IsRise S'.inputs rise_same; looped = still }) (λ i from to. refl) run.moves in
     let whole : AreAt s.calls 0 s.calls = λ i x at. subst (λ j. slice_get s.calls j ≡ Some x) (let z : i ≡ 0 + i = omega arith in z) at in
     (end, s.calls, record { count = s.count; start = start; entered = run.entered; holds = s.walks s.calls whole; range = range; read = run.read; told = refl })
 

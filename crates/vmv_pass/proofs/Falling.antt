@@ -53,7 +53,7 @@ keep_falls given k seen kept S S' size grown (old, at, inr (above, (both, join, 
     let r = room_falls old kept same up other in
     let s = sum_set room S.keeps k kept old at in
     let q = sum_set (rank given.thresholds) S.keeps k kept old at in
-    let T : Lists = record S { keeps = slice_set S.keeps k kept; raised = true; steps = S.steps + 1 } in
+    let T : Lists = record S { keeps = slice_set S.keeps k kept; raised = true; looped = true; steps = S.steps + 1 } in
     let fallen : Fallen S T = record { most = omega arith; less = λ f t. omega arith } in
     let paid : Sound given.thresholds S → IsPaid given.thresholds S T =
     λ sound. (let l = rank_rises given.thresholds old kept same (all_at (IsThresholdState given.thresholds) S.keeps k old sound.thresholds at) up other in omega arith) in
@@ -75,7 +75,7 @@ take_falls given c args S S' normal size grown (old, at, inr (above, (both, inpu
     record { most = omega arith; less = λ f t. omega arith }) in
     subst (Falls given S) (sym is) (record { grows = subst (Grows given.thresholds S) is grown; falls = fallen; paid = λ sound. omega arith })
 
-sized : (sizes : List ℕ) (inputs : List Zone) (c n : ℕ) → map (λ (z : Zone). z.vars) inputs ≡ sizes → slice_get sizes c ≡ Some n → (old : Zone) → slice_get inputs c ≡ Some old → n ≡ old.vars
+pub sized : (sizes : List ℕ) (inputs : List Zone) (c n : ℕ) → map (λ (z : Zone). z.vars) inputs ≡ sizes → slice_get sizes c ≡ Some n → (old : Zone) → slice_get inputs c ≡ Some old → n ≡ old.vars
 sized sizes inputs c n same at old e =
     some_same (sym at ∙ (ap (λ (ns : List ℕ). slice_get ns c) (sym same) ∙ get_map (λ (z : Zone). z.vars) inputs c old e))
 

@@ -17,23 +17,24 @@ pub record Unchanged (S S' : Lists) : Type 0 where
   pub keeps : S'.keeps ≡ S.keeps
   pub inputs : S'.inputs ≡ S.inputs
   pub raised : IsFalse S.raised
+  pub looped : S'.looped ≡ S.looped
 
 abbrev pub Stays : Lists → Lists → Type 0
 Stays S S' = IsFalse S'.raised → Unchanged S S'
 
 stays_keep : (given : Given) (k : ℕ) (seen kept : Zone) (S S' : Lists) → Keeps given k seen S kept S' → Stays S S'
-stays_keep given k seen kept S S' (old, at, inl (below, same, is)) = subst (Stays S) (sym is) (λ f. record { keeps = refl; inputs = refl; raised = f })
+stays_keep given k seen kept S S' (old, at, inl (below, same, is)) = subst (Stays S) (sym is) (λ f. record { keeps = refl; inputs = refl; raised = f; looped = refl })
 stays_keep given k seen kept S S' (old, at, inr (above, (both, join, round, is))) = subst (Stays S) (sym is) (λ f. clash true refl f)
 
 stays_take : (c : ℕ) (args : Zone) (S S' : Lists) → Takes c args S S' → Stays S S'
-stays_take c args S S' (old, at, inl (below, is)) = subst (Stays S) (sym is) (λ f. record { keeps = refl; inputs = refl; raised = f })
+stays_take c args S S' (old, at, inl (below, is)) = subst (Stays S) (sym is) (λ f. record { keeps = refl; inputs = refl; raised = f; looped = refl })
 stays_take c args S S' (old, at, inr (above, (both, input, join, norm, is))) = subst (Stays S) (sym is) (λ f. clash true refl f)
 
 pub stays : (vars : ℕ) (sizes : List ℕ) (given : Given) → Rule vars sizes given Stays
 stays vars sizes given = record {
-  same = λ S f. record { keeps = refl; inputs = refl; raised = f };
-  chain = λ S T U a b f. let y = b f in let x = a y.raised in record { keeps = y.keeps ∙ x.keeps; inputs = y.inputs ∙ x.inputs; raised = x.raised };
-  flag = λ S i flag f. record { keeps = refl; inputs = refl; raised = f };
+  same = λ S f. record { keeps = refl; inputs = refl; raised = f; looped = refl };
+  chain = λ S T U a b f. let y = b f in let x = a y.raised in record { keeps = y.keeps ∙ x.keeps; inputs = y.inputs ∙ x.inputs; raised = x.raised; looped = y.looped ∙ x.looped };
+  flag = λ S i flag f. record { keeps = refl; inputs = refl; raised = f; looped = refl };
   keep = λ k seen kept S S' base vars h. stays_keep given k seen kept S S' h;
   take = λ c args S S' base size normal h. stays_take c args S S' h;
 }
@@ -45,10 +46,10 @@ below_same z up = record { not_bottom = up; bounds = λ i j hi hj. omega (arith,
 abbrev pub IsRise : Zone → Zone → Type 0
 IsRise x y = (vars_of y ≡ vars_of x) × IsBelow x y
 
-rise_same : (z : Zone) → IsRise z z
+pub rise_same : (z : Zone) → IsRise z z
 rise_same z = (refl, below_same z)
 
-rise_chain : (x y z : Zone) → IsRise x y → IsRise y z → IsRise x z
+pub rise_chain : (x y z : Zone) → IsRise x y → IsRise y z → IsRise x z
 rise_chain x y z a b = (b.0 ∙ a.0, below_trans x y z (sym b.0) a.1 b.1)
 
 -- the states at loops are threshold states, and the inputs normal

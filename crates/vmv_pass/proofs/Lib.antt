@@ -12,3 +12,4 @@ pub mod Settling
 pub mod Calls
 pub mod Bodies
 pub mod Telling
+pub mod Flags

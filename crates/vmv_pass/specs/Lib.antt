@@ -4,3 +4,4 @@ pub mod Holds
 pub mod Room
 pub mod Upper
 pub mod Moves
+pub mod Told

@@ -32,20 +32,21 @@ pub record Given : Type 0 where
   pub thresholds : List ℤ
   pub results : List Cond
 
--- what a pass changes: the states at loops, the inputs of calls, the unproved sites, whether it raised something, and the
--- number of raised states
+-- what a pass changes: the states at loops, the inputs of calls, the unproved sites, whether it raised something, whether
+-- that was a state at a loop, and the number of raised states
 pub record Lists : Type 0 where
   pub keeps : List Zone
   pub inputs : List Zone
   pub unproved : List Bool
   pub raised : Bool
+  pub looped : Bool
   pub steps : ℕ
 
 abbrev pub given_of : Place → Given
 given_of at = record { assumed = cond_of at.assumed.now; thresholds = at.thresholds.now; results = at.results.now }
 
-abbrev pub lists : List Zone → List Zone → List Bool → Bool → ℕ → Lists
-lists keeps inputs unproved raised steps = record { keeps = keeps; inputs = inputs; unproved = unproved; raised = raised; steps = steps }
+abbrev pub lists : List Zone → List Zone → List Bool → Bool → Bool → ℕ → Lists
+lists keeps inputs unproved raised looped steps = record { keeps = keeps; inputs = inputs; unproved = unproved; raised = raised; looped = looped; steps = steps }
 
 -- what is stored, where these are the lists
 abbrev pub stored_of : Place → List Zone → List Zone → List Bool → Stored
@@ -66,7 +67,7 @@ Keeps given k seen S kept S' =
     (old : Zone) × (slice_get S.keeps k ≡ Some old)
     × ((IsBelow seen old × (kept ≡ old) × (S' ≡ S))
     ⊎ ((IsBelow seen old → ⊥) × ((both : Zone) × IsJoin old seen both × IsRounded given.thresholds both kept
-    × (S' ≡ record S { keeps = slice_set S.keeps k kept; raised = true; steps = S.steps + 1 }))))
+    × (S' ≡ record S { keeps = slice_set S.keeps k kept; raised = true; looped = true; steps = S.steps + 1 }))))
 
 -- the input of the c-th call stays where the arguments are below it, and else rises to the norm of the join
 abbrev pub Takes : ℕ → Zone → Lists → Lists → Type 0

@@ -1,4 +1,4 @@
-ghost use Rattle.std.specs.Prelude.{◌≡◌, ◌<◌, ◌≤◌, ℕ, Bool, Some, List, length, map, get_or, slice_get};
+ghost use Rattle.std.specs.Prelude.{◌≡◌, ◌<◌, ◌≤◌, ℕ, Bool, Some, List, true, length, map, get_or, slice_get, slice_set};
 ghost use Rattle.std.specs.List.{All};
 ghost use Rattle.vmv_zone.specs.declared.zone.Zone.{Zone};
 ghost use Rattle.vmv_zone.specs.Zone.{vars_of, IsJoin, IsNormOf};
@@ -6,6 +6,7 @@ ghost use Rattle.vmv_zone.specs.Round.{IsRounded};
 ghost use Rattle.vmv_step.specs.Agree.{HasSite};
 ghost use Rattle.vmv_pass.specs.Upper.{AreScale};
 ghost use Rattle.vmv_pass.specs.Moves.{given_of, lists, Keeps, Takes, flagged};
+ghost use Rattle.vmv_pass.specs.Told.{AreTold};
 
 use crate::place::Place;
 use crate::steps::Steps;
@@ -21,12 +22,13 @@ pub(crate) fn raise_keep<L: Ledger>(
     seen: &Zone,
     keeps: &mut [Zone],
     raised: &mut bool,
+    looped: &mut bool,
     steps: &mut Steps<L>,
 )
     requires inside { k < length keeps.old }
     requires over { All (λ z. vars_of z ≡ vars_of seen.now) keeps.old }
     requires scale { AreScale at.now.thresholds.now }
-    ensures keeps { (inputs : List Zone) (flags : List Bool) (kept : Zone) → slice_get keeps.new k ≡ Some kept → Keeps (given_of at.now) k seen.now (lists keeps.old inputs flags raised.old steps.old) kept (lists keeps.new inputs flags raised.new steps.new) }
+    ensures keeps { (inputs : List Zone) (flags : List Bool) (kept : Zone) → slice_get keeps.new k ≡ Some kept → Keeps (given_of at.now) k seen.now (lists keeps.old inputs flags raised.old looped.old steps.old) kept (lists keeps.new inputs flags raised.new looped.new steps.new) }
     ensures over { All (λ z. vars_of z ≡ vars_of seen.now) keeps.new }
 {
     if seen.below(&keeps[k]) {
@@ -34,6 +36,7 @@ pub(crate) fn raise_keep<L: Ledger>(
     }
     raise_state(&mut keeps[k], seen, at.thresholds);
     *raised = true;
+    *looped = true;
     steps.tick();
 }
 
@@ -48,17 +51,35 @@ fn raise_state(kept: &mut Zone, seen: &Zone, thresholds: &[i128])
     kept.raise_to(thresholds);
 }
 
-/// Raises the input of the call of this number so that it is above these arguments.
-pub(crate) fn take_input(c: usize, args: &Zone, inputs: &mut [Zone], raised: &mut bool)
+/// Sets the flag of this number, where there is one.
+fn set_flag(flags: &mut [bool], c: usize)
+    ensures { flags.new ≡ slice_set flags.old c true }
+{
+    if c < flags.len() {
+        flags[c] = true;
+    }
+}
+
+/// Raises the input of the call of this number so that it is above these arguments, and sets the flag of the call where
+/// that is a change.
+pub(crate) fn take_input(
+    c: usize,
+    args: &Zone,
+    inputs: &mut [Zone],
+    risen: &mut [bool],
+    raised: &mut bool,
+)
     requires inside { c < length inputs.old }
     requires vars { (d : Zone) → vars_of (get_or inputs.old c d) ≡ vars_of args.now }
-    ensures takes { (keeps : List Zone) (flags : List Bool) (steps : ℕ) → Takes c args.now (lists keeps inputs.old flags raised.old steps) (lists keeps inputs.new flags raised.new steps) }
+    ensures takes { (keeps : List Zone) (flags : List Bool) (looped : Bool) (steps : ℕ) → Takes c args.now (lists keeps inputs.old flags raised.old looped steps) (lists keeps inputs.new flags raised.new looped steps) }
+    ensures told { AreTold inputs.old risen.old inputs.new risen.new }
     ensures sizes { map vars_of inputs.new ≡ map vars_of inputs.old }
 {
     if args.below(&inputs[c]) {
         return;
     }
     raise_input(&mut inputs[c], args);
+    set_flag(risen, c);
     *raised = true;
 }
 

@@ -22,14 +22,17 @@ pub struct Passed {
     pub range: Cond,
     /// Whether a state that is stored was raised.
     pub raised: bool,
+    /// Whether that was a state at a loop.
+    pub looped: bool,
 }
 
-/// Where a pass is: how many loops and calls of helpers were met, and whether a state was raised.
+/// Where a pass is: how many loops and calls of helpers were met, whether a state was raised, and whether one at a loop was.
 #[derive(Drop)]
 pub(crate) struct Mark {
     pub(crate) keep: usize,
     pub(crate) call: usize,
     pub(crate) raised: bool,
+    pub(crate) looped: bool,
 }
 
 /// States to work in. What they are before and behind a pass doesn't matter.

@@ -9,6 +9,7 @@ ghost use Rattle.vmv_cert.specs.Sizes.{loops, block_loops};
 ghost use Rattle.vmv_check.specs.Walker.{IsReady, AreReady, loop_of};
 ghost use Rattle.vmv_pass.specs.Callees.{callees, block_callees};
 ghost use Rattle.vmv_pass.specs.Moves.{given_of, lists, Moves, MovesAll, AreCalled, HasKeeps, HasSites, HaveSites};
+ghost use Rattle.vmv_pass.specs.Told.{AreTold};
 ghost use Rattle.vmv_pass.specs.Upper.{AreScale};
 
 use crate::call::pass_call;
@@ -28,7 +29,7 @@ fn pass_simple(at: &Place<'_>, simple: &Simple, unproved: &mut [bool], zone: &mu
     requires few { vars_of zone.old ≤ 16 }
     requires inside { IsSimpleInside (vars_of zone.old) simple.now }
     requires sites { HasSites (length unproved.old) (plain simple.now) }
-    ensures moves { (k c : ℕ) (keeps inputs : List Zone) (raised : Bool) (steps : ℕ) → Moves (given_of at.now) k c (plain simple.now) zone.old (lists keeps inputs unproved.old raised steps) zone.new (lists keeps inputs unproved.new raised steps) }
+    ensures moves { (k c : ℕ) (keeps inputs : List Zone) (raised looped : Bool) (steps : ℕ) → Moves (given_of at.now) k c (plain simple.now) zone.old (lists keeps inputs unproved.old raised looped steps) zone.new (lists keeps inputs unproved.new raised looped steps) }
     ensures normal { IsNormal zone.new }
     ensures vars { vars_of zone.new ≡ vars_of zone.old }
 {
@@ -44,6 +45,7 @@ fn pass_stmt<L: Ledger>(
     stmt: &CodeStmt,
     keeps: &mut [Zone],
     inputs: &mut [Zone],
+    risen: &mut [bool],
     unproved: &mut [bool],
     mark: &mut Mark,
     steps: &mut Steps<L>,
@@ -59,11 +61,12 @@ fn pass_stmt<L: Ledger>(
     requires calls { mark.old.call + length (callees (stmt_of stmt.now)) ≤ length inputs.old }
     requires results { length at.now.results.now ≡ length inputs.old }
     requires scale { AreScale at.now.thresholds.now }
-    ensures moves { Moves (given_of at.now) mark.old.keep mark.old.call (stmt_of stmt.now) zone.old (lists keeps.old inputs.old unproved.old mark.old.raised steps.old) zone.new (lists keeps.new inputs.new unproved.new mark.new.raised steps.new) }
+    ensures moves { Moves (given_of at.now) mark.old.keep mark.old.call (stmt_of stmt.now) zone.old (lists keeps.old inputs.old unproved.old mark.old.raised mark.old.looped steps.old) zone.new (lists keeps.new inputs.new unproved.new mark.new.raised mark.new.looped steps.new) }
     ensures normal { IsNormal zone.new }
     ensures vars { vars_of zone.new ≡ vars_of zone.old }
     ensures over { All (λ z. vars_of z ≡ vars_of zone.old) keeps.new }
     ensures sizes { map vars_of inputs.new ≡ map vars_of inputs.old }
+    ensures told { AreTold inputs.old risen.old inputs.new risen.new }
     ensures keep { mark.new.keep ≡ mark.old.keep + loops (stmt_of stmt.now) }
     ensures call { mark.new.call ≡ mark.old.call + length (callees (stmt_of stmt.now)) }
 {
@@ -78,6 +81,7 @@ fn pass_stmt<L: Ledger>(
                 args.as_slice(),
                 c,
                 inputs,
+                risen,
                 &mut mark.raised,
                 passed,
                 zone,
@@ -94,6 +98,7 @@ fn pass_stmt<L: Ledger>(
             second.as_slice(),
             keeps,
             inputs,
+            risen,
             unproved,
             mark,
             steps,
@@ -102,7 +107,7 @@ fn pass_stmt<L: Ledger>(
         ),
         CodeStmt::Repeat(repeat) => {
             pass_repeat(
-                at, repeat, keeps, inputs, unproved, mark, steps, passed, zone,
+                at, repeat, keeps, inputs, risen, unproved, mark, steps, passed, zone,
             )
         }
     }
@@ -118,6 +123,7 @@ fn pass_if<L: Ledger>(
     second: &[CodeStmt],
     keeps: &mut [Zone],
     inputs: &mut [Zone],
+    risen: &mut [bool],
     unproved: &mut [bool],
     mark: &mut Mark,
     steps: &mut Steps<L>,
@@ -133,21 +139,22 @@ fn pass_if<L: Ledger>(
     requires calls { mark.old.call + length (callees (branch test.now (block_of first.now) (block_of second.now))) ≤ length inputs.old }
     requires results { length at.now.results.now ≡ length inputs.old }
     requires scale { AreScale at.now.thresholds.now }
-    ensures moves { Moves (given_of at.now) mark.old.keep mark.old.call (branch test.now (block_of first.now) (block_of second.now)) zone.old (lists keeps.old inputs.old unproved.old mark.old.raised steps.old) zone.new (lists keeps.new inputs.new unproved.new mark.new.raised steps.new) }
+    ensures moves { Moves (given_of at.now) mark.old.keep mark.old.call (branch test.now (block_of first.now) (block_of second.now)) zone.old (lists keeps.old inputs.old unproved.old mark.old.raised mark.old.looped steps.old) zone.new (lists keeps.new inputs.new unproved.new mark.new.raised mark.new.looped steps.new) }
     ensures normal { IsNormal zone.new }
     ensures vars { vars_of zone.new ≡ vars_of zone.old }
     ensures over { All (λ z. vars_of z ≡ vars_of zone.old) keeps.new }
     ensures sizes { map vars_of inputs.new ≡ map vars_of inputs.old }
+    ensures told { AreTold inputs.old risen.old inputs.new risen.new }
     ensures keep { mark.new.keep ≡ mark.old.keep + loops (branch test.now (block_of first.now) (block_of second.now)) }
     ensures call { mark.new.call ≡ mark.old.call + length (callees (branch test.now (block_of first.now) (block_of second.now))) }
 {
     let mut other = *zone;
     branch_in_place(test, zone, &mut other);
     pass_block(
-        at, first, keeps, inputs, unproved, mark, steps, passed, zone,
+        at, first, keeps, inputs, risen, unproved, mark, steps, passed, zone,
     );
     pass_block(
-        at, second, keeps, inputs, unproved, mark, steps, passed, &mut other,
+        at, second, keeps, inputs, risen, unproved, mark, steps, passed, &mut other,
     );
     zone.join_with(&other);
 }
@@ -159,6 +166,7 @@ fn pass_repeat<L: Ledger>(
     repeat: &CodeRepeat,
     keeps: &mut [Zone],
     inputs: &mut [Zone],
+    risen: &mut [bool],
     unproved: &mut [bool],
     mark: &mut Mark,
     steps: &mut Steps<L>,
@@ -174,11 +182,12 @@ fn pass_repeat<L: Ledger>(
     requires calls { mark.old.call + length (callees (loop_of repeat.now)) ≤ length inputs.old }
     requires results { length at.now.results.now ≡ length inputs.old }
     requires scale { AreScale at.now.thresholds.now }
-    ensures moves { Moves (given_of at.now) mark.old.keep mark.old.call (loop_of repeat.now) zone.old (lists keeps.old inputs.old unproved.old mark.old.raised steps.old) zone.new (lists keeps.new inputs.new unproved.new mark.new.raised steps.new) }
+    ensures moves { Moves (given_of at.now) mark.old.keep mark.old.call (loop_of repeat.now) zone.old (lists keeps.old inputs.old unproved.old mark.old.raised mark.old.looped steps.old) zone.new (lists keeps.new inputs.new unproved.new mark.new.raised mark.new.looped steps.new) }
     ensures normal { IsNormal zone.new }
     ensures vars { vars_of zone.new ≡ vars_of zone.old }
     ensures over { All (λ z. vars_of z ≡ vars_of zone.old) keeps.new }
     ensures sizes { map vars_of inputs.new ≡ map vars_of inputs.old }
+    ensures told { AreTold inputs.old risen.old inputs.new risen.new }
     ensures keep { mark.new.keep ≡ mark.old.keep + loops (loop_of repeat.now) }
     ensures call { mark.new.call ≡ mark.old.call + length (callees (loop_of repeat.now)) }
 {
@@ -186,7 +195,15 @@ fn pass_repeat<L: Ledger>(
     mark.keep += 1;
     let flag = head_in_place(repeat, zone);
     unproved[repeat.site as usize - 1] = flag;
-    raise_keep(at, k, zone, keeps, &mut mark.raised, steps);
+    raise_keep(
+        at,
+        k,
+        zone,
+        keeps,
+        &mut mark.raised,
+        &mut mark.looped,
+        steps,
+    );
     zone.copy_from(&keeps[k]);
     zone.normalize();
     turn_in_place(repeat, zone);
@@ -195,6 +212,7 @@ fn pass_repeat<L: Ledger>(
         repeat.body.as_slice(),
         keeps,
         inputs,
+        risen,
         unproved,
         mark,
         steps,
@@ -202,7 +220,15 @@ fn pass_repeat<L: Ledger>(
         zone,
     );
     again_in_place(repeat, zone);
-    raise_keep(at, k, zone, keeps, &mut mark.raised, steps);
+    raise_keep(
+        at,
+        k,
+        zone,
+        keeps,
+        &mut mark.raised,
+        &mut mark.looped,
+        steps,
+    );
     zone.copy_from(&keeps[k]);
     zone.normalize();
     leave_in_place(repeat, zone);
@@ -215,6 +241,7 @@ pub(crate) fn pass_block<L: Ledger>(
     block: &[CodeStmt],
     keeps: &mut [Zone],
     inputs: &mut [Zone],
+    risen: &mut [bool],
     unproved: &mut [bool],
     mark: &mut Mark,
     steps: &mut Steps<L>,
@@ -230,15 +257,18 @@ pub(crate) fn pass_block<L: Ledger>(
     requires calls { mark.old.call + length (block_callees (block_of block.now)) ≤ length inputs.old }
     requires results { length at.now.results.now ≡ length inputs.old }
     requires scale { AreScale at.now.thresholds.now }
-    ensures moves { MovesAll (given_of at.now) mark.old.keep mark.old.call (block_of block.now) zone.old (lists keeps.old inputs.old unproved.old mark.old.raised steps.old) zone.new (lists keeps.new inputs.new unproved.new mark.new.raised steps.new) }
+    ensures moves { MovesAll (given_of at.now) mark.old.keep mark.old.call (block_of block.now) zone.old (lists keeps.old inputs.old unproved.old mark.old.raised mark.old.looped steps.old) zone.new (lists keeps.new inputs.new unproved.new mark.new.raised mark.new.looped steps.new) }
     ensures normal { IsNormal zone.new }
     ensures vars { vars_of zone.new ≡ vars_of zone.old }
     ensures over { All (λ z. vars_of z ≡ vars_of zone.old) keeps.new }
     ensures sizes { map vars_of inputs.new ≡ map vars_of inputs.old }
+    ensures told { AreTold inputs.old risen.old inputs.new risen.new }
     ensures keep { mark.new.keep ≡ mark.old.keep + block_loops (block_of block.now) }
     ensures call { mark.new.call ≡ mark.old.call + length (block_callees (block_of block.now)) }
 {
     for stmt in block {
-        pass_stmt(at, stmt, keeps, inputs, unproved, mark, steps, passed, zone);
+        pass_stmt(
+            at, stmt, keeps, inputs, risen, unproved, mark, steps, passed, zone,
+        );
     }
 }

@@ -3,7 +3,7 @@ use Rattle.vmv_forward.proofs.Turning.{lower, all_settled}
 use Rattle.vmv_forward.proofs.rounds.settle.Goals as goal
 
 pub loop-raised-smaller : goal.loop-raised-smaller
-loop-raised-smaller g c = lower c.loop-raised.raised c.round-raised.result (all_rooms c.round-raised.new.instances) (all_rooms c.loop-raised.instances) c.loop-raised-test.true c.round-raised.ensures.falls c.round-raised.ensures.stays
+loop-raised-smaller g c = lower c.loop-raised.raised c.sweep-raised.result (all_rooms c.sweep-raised.new.instances) (all_rooms c.loop-raised.instances) c.loop-raised-test.true c.sweep-raised.ensures.falls c.sweep-raised.ensures.stays
 
 pub returns-clause-settled : goal.returns-clause-settled
-returns-clause-settled g c = all_settled (quest_of c.args.search.now) c.loop-raised.instances c.loop-raised.due c.loop-raised.invariant.due (c.loop-raised.invariant.done c.loop-raised-test.false)
+returns-clause-settled g c = all_settled (quest_of c.args.search.now) c.loop-raised.instances c.loop-raised.waiting c.loop-raised.invariant.waiting (c.loop-raised.invariant.done c.loop-raised-test.false)

@@ -1,4 +1,4 @@
-use Rattle.vmv_forward.proofs.Marking.{all_due}
+use Rattle.vmv_forward.proofs.Turning.{all_wait}
 use Rattle.std.proofs.Common.{◌≡◌, ◌≤◌, ◌+◌, ◌*◌, ℕ, ℤ, List, [], length, sym, subst, ◌∙◌}
 use Rattle.std.proofs.lemmas.List.{with_items_is}
 use Rattle.vmv_tree.specs.declared.ends.NameEnds.{NameEnds}
@@ -44,10 +44,10 @@ settle-requires-clause-kept g c =
     let are = subst (λ (l : List ℤ). AreThresholds (tree_of program) c.args.entry.0 c.requires.thresholds.0 l) (sym c.as_slice.ensures) c.requires.thresholds.1 in
     start_kept q c.as_mut_slice.result.now c.program-program.ensures.resolution (scale_of (tree_of program) c.args.entry.0 c.requires.thresholds.0 c.as_slice.result.now are) start over c.norm-input.ensures.normal
 
-pub settle-requires-clause-due : goal.settle-requires-clause-due
-settle-requires-clause-due g c =
+pub settle-requires-clause-waiting : goal.settle-requires-clause-waiting
+settle-requires-clause-waiting g c =
     let q : Quest = record { program = c.args.snapshot.now; entry = c.args.entry.0; input = c.norm-input.result; assumed = cond_of c.args.assumed.now; thresholds = c.as_slice.result.now } in
-    all_due q c.as_mut_slice.result.now c.len.result c.in_ok-due.due.items c.as_mut_slice-2.result.now (c.len.ensures ∙ sym c.as_mut_slice.ensures.len) (c.in_ok-due.ensures.items_if_clones_equal (λ y e. e)) c.as_mut_slice-2.ensures.value
+    all_wait q c.as_mut_slice.result.now c.len-count.result c.in_ok-waiting.waiting (c.len-count.ensures ∙ sym c.as_mut_slice.ensures.len) c.in_ok-waiting.ensures
 
 pub table_of-requires-clause-reached : goal.table_of-requires-clause-reached
 table_of-requires-clause-reached g c =

@@ -109,8 +109,8 @@ returns-clause-keeps_stay g c still =
     let item = it.0 in
     let code = c.code-code.result.now in
     let proc : IsProc program n item code = record { place = it.1; code_is = c.code-code.ensures.kept } in
-    let S = (lists c.args.keeps.now c.args.inputs.now c.args.unproved.now false c.args.steps.now) in
-    let S' = (lists c.pass_block.new.keeps c.pass_block.new.inputs c.pass_block.new.unproved c.pass_block.new.mark.raised c.pass_block.new.steps) in
+    let S = (lists c.args.keeps.now c.args.inputs.now c.args.unproved.now false false c.args.steps.now) in
+    let S' = (lists c.pass_block.new.keeps c.pass_block.new.inputs c.pass_block.new.unproved c.pass_block.new.mark.raised c.pass_block.new.mark.looped c.pass_block.new.steps) in
     let same : c.code-code.result.now ≡ code = some_same (sym c.code-code.ensures.kept ∙ proc.code_is) in
     let run : Run program item code (given_of c.args.at.now) c.args.at.now.input.now c.enter_into.new.into c.pass_block.new.zone c.range_normed.result S S' = record {
       facts = facts_of program n item code c.program-program.ensures.resolution proc;
@@ -130,8 +130,8 @@ returns-clause-inputs_stay g c still =
     let item = it.0 in
     let code = c.code-code.result.now in
     let proc : IsProc program n item code = record { place = it.1; code_is = c.code-code.ensures.kept } in
-    let S = (lists c.args.keeps.now c.args.inputs.now c.args.unproved.now false c.args.steps.now) in
-    let S' = (lists c.pass_block.new.keeps c.pass_block.new.inputs c.pass_block.new.unproved c.pass_block.new.mark.raised c.pass_block.new.steps) in
+    let S = (lists c.args.keeps.now c.args.inputs.now c.args.unproved.now false false c.args.steps.now) in
+    let S' = (lists c.pass_block.new.keeps c.pass_block.new.inputs c.pass_block.new.unproved c.pass_block.new.mark.raised c.pass_block.new.mark.looped c.pass_block.new.steps) in
     let same : c.code-code.result.now ≡ code = some_same (sym c.code-code.ensures.kept ∙ proc.code_is) in
     let run : Run program item code (given_of c.args.at.now) c.args.at.now.input.now c.enter_into.new.into c.pass_block.new.zone c.range_normed.result S S' = record {
       facts = facts_of program n item code c.program-program.ensures.resolution proc;
@@ -143,12 +143,33 @@ returns-clause-inputs_stay g c still =
     } in
     (run_stays program item code (given_of c.args.at.now) c.args.at.now.input.now c.enter_into.new.into c.pass_block.new.zone c.range_normed.result S S' run still).inputs
 
+pub returns-clause-looped : goal.returns-clause-looped
+returns-clause-looped g c still =
+    let program = c.args.at.now.snapshot.now in
+    let n = c.args.at.now.proc.0 in
+    let it = item_at (procs_of program) n c.requires.proc in
+    let item = it.0 in
+    let code = c.code-code.result.now in
+    let proc : IsProc program n item code = record { place = it.1; code_is = c.code-code.ensures.kept } in
+    let S = (lists c.args.keeps.now c.args.inputs.now c.args.unproved.now false false c.args.steps.now) in
+    let S' = (lists c.pass_block.new.keeps c.pass_block.new.inputs c.pass_block.new.unproved c.pass_block.new.mark.raised c.pass_block.new.mark.looped c.pass_block.new.steps) in
+    let same : c.code-code.result.now ≡ code = some_same (sym c.code-code.ensures.kept ∙ proc.code_is) in
+    let run : Run program item code (given_of c.args.at.now) c.args.at.now.input.now c.enter_into.new.into c.pass_block.new.zone c.range_normed.result S S' = record {
+      facts = facts_of program n item code c.program-program.ensures.resolution proc;
+      entered = c.enter_into.ensures item code proc.place proc.code_is;
+      moves = subst (λ (b : List CodeStmt). MovesAll (given_of c.args.at.now) 0 0 (block_of b) c.enter_into.new.into S c.pass_block.new.zone S') (c.as_slice.ensures ∙ ap (λ (x : Code). x.block) same) c.pass_block.ensures.moves;
+      read = subst (λ (x : ZoneOperand). IsRangeOf c.pass_block.new.zone x c.range_normed.result) (c.zone_operand.ensures ∙ ap (λ (x : Code). zone_operand x.result) same) c.range_normed.ensures;
+      fits = c.requires.fits item code proc;
+      begun = refl;
+    } in
+    (run_stays program item code (given_of c.args.at.now) c.args.at.now.input.now c.enter_into.new.into c.pass_block.new.zone c.range_normed.result S S' run still).looped
+
 pub returns-clause-settled : goal.returns-clause-settled
 returns-clause-settled g c still item code proc =
     let program = c.args.at.now.snapshot.now in
     let n = c.args.at.now.proc.0 in
-    let S = (lists c.args.keeps.now c.args.inputs.now c.args.unproved.now false c.args.steps.now) in
-    let S' = (lists c.pass_block.new.keeps c.pass_block.new.inputs c.pass_block.new.unproved c.pass_block.new.mark.raised c.pass_block.new.steps) in
+    let S = (lists c.args.keeps.now c.args.inputs.now c.args.unproved.now false false c.args.steps.now) in
+    let S' = (lists c.pass_block.new.keeps c.pass_block.new.inputs c.pass_block.new.unproved c.pass_block.new.mark.raised c.pass_block.new.mark.looped c.pass_block.new.steps) in
     let same : c.code-code.result.now ≡ code = some_same (sym c.code-code.ensures.kept ∙ proc.code_is) in
     let run : Run program item code (given_of c.args.at.now) c.args.at.now.input.now c.enter_into.new.into c.pass_block.new.zone c.range_normed.result S S' = record {
       facts = facts_of program n item code c.program-program.ensures.resolution proc;
@@ -164,8 +185,8 @@ pub returns-clause-fits : goal.returns-clause-fits
 returns-clause-fits g c item code proc =
     let program = c.args.at.now.snapshot.now in
     let n = c.args.at.now.proc.0 in
-    let S = (lists c.args.keeps.now c.args.inputs.now c.args.unproved.now false c.args.steps.now) in
-    let S' = (lists c.pass_block.new.keeps c.pass_block.new.inputs c.pass_block.new.unproved c.pass_block.new.mark.raised c.pass_block.new.steps) in
+    let S = (lists c.args.keeps.now c.args.inputs.now c.args.unproved.now false false c.args.steps.now) in
+    let S' = (lists c.pass_block.new.keeps c.pass_block.new.inputs c.pass_block.new.unproved c.pass_block.new.mark.raised c.pass_block.new.mark.looped c.pass_block.new.steps) in
     let same : c.code-code.result.now ≡ code = some_same (sym c.code-code.ensures.kept ∙ proc.code_is) in
     let run : Run program item code (given_of c.args.at.now) c.args.at.now.input.now c.enter_into.new.into c.pass_block.new.zone c.range_normed.result S S' = record {
       facts = facts_of program n item code c.program-program.ensures.resolution proc;
@@ -185,8 +206,8 @@ returns-clause-keeps_rise g c =
     let item = it.0 in
     let code = c.code-code.result.now in
     let proc : IsProc program n item code = record { place = it.1; code_is = c.code-code.ensures.kept } in
-    let S = (lists c.args.keeps.now c.args.inputs.now c.args.unproved.now false c.args.steps.now) in
-    let S' = (lists c.pass_block.new.keeps c.pass_block.new.inputs c.pass_block.new.unproved c.pass_block.new.mark.raised c.pass_block.new.steps) in
+    let S = (lists c.args.keeps.now c.args.inputs.now c.args.unproved.now false false c.args.steps.now) in
+    let S' = (lists c.pass_block.new.keeps c.pass_block.new.inputs c.pass_block.new.unproved c.pass_block.new.mark.raised c.pass_block.new.mark.looped c.pass_block.new.steps) in
     let same : c.code-code.result.now ≡ code = some_same (sym c.code-code.ensures.kept ∙ proc.code_is) in
     let run : Run program item code (given_of c.args.at.now) c.args.at.now.input.now c.enter_into.new.into c.pass_block.new.zone c.range_normed.result S S' = record {
       facts = facts_of program n item code c.program-program.ensures.resolution proc;
@@ -206,8 +227,8 @@ returns-clause-inputs_rise g c =
     let item = it.0 in
     let code = c.code-code.result.now in
     let proc : IsProc program n item code = record { place = it.1; code_is = c.code-code.ensures.kept } in
-    let S = (lists c.args.keeps.now c.args.inputs.now c.args.unproved.now false c.args.steps.now) in
-    let S' = (lists c.pass_block.new.keeps c.pass_block.new.inputs c.pass_block.new.unproved c.pass_block.new.mark.raised c.pass_block.new.steps) in
+    let S = (lists c.args.keeps.now c.args.inputs.now c.args.unproved.now false false c.args.steps.now) in
+    let S' = (lists c.pass_block.new.keeps c.pass_block.new.inputs c.pass_block.new.unproved c.pass_block.new.mark.raised c.pass_block.new.mark.looped c.pass_block.new.steps) in
     let same : c.code-code.result.now ≡ code = some_same (sym c.code-code.ensures.kept ∙ proc.code_is) in
     let run : Run program item code (given_of c.args.at.now) c.args.at.now.input.now c.enter_into.new.into c.pass_block.new.zone c.range_normed.result S S' = record {
       facts = facts_of program n item code c.program-program.ensures.resolution proc;
@@ -227,8 +248,8 @@ returns-clause-falls g c raised =
     let item = it.0 in
     let code = c.code-code.result.now in
     let proc : IsProc program n item code = record { place = it.1; code_is = c.code-code.ensures.kept } in
-    let S = (lists c.args.keeps.now c.args.inputs.now c.args.unproved.now false c.args.steps.now) in
-    let S' = (lists c.pass_block.new.keeps c.pass_block.new.inputs c.pass_block.new.unproved c.pass_block.new.mark.raised c.pass_block.new.steps) in
+    let S = (lists c.args.keeps.now c.args.inputs.now c.args.unproved.now false false c.args.steps.now) in
+    let S' = (lists c.pass_block.new.keeps c.pass_block.new.inputs c.pass_block.new.unproved c.pass_block.new.mark.raised c.pass_block.new.mark.looped c.pass_block.new.steps) in
     let same : c.code-code.result.now ≡ code = some_same (sym c.code-code.ensures.kept ∙ proc.code_is) in
     let run : Run program item code (given_of c.args.at.now) c.args.at.now.input.now c.enter_into.new.into c.pass_block.new.zone c.range_normed.result S S' = record {
       facts = facts_of program n item code c.program-program.ensures.resolution proc;
@@ -245,8 +266,8 @@ returns-clause-under g c source item code e calls upper under =
     let program = c.args.at.now.snapshot.now in
     let n = c.args.at.now.proc.0 in
     let proc = upper.proc in
-    let S = (lists c.args.keeps.now c.args.inputs.now c.args.unproved.now false c.args.steps.now) in
-    let S' = (lists c.pass_block.new.keeps c.pass_block.new.inputs c.pass_block.new.unproved c.pass_block.new.mark.raised c.pass_block.new.steps) in
+    let S = (lists c.args.keeps.now c.args.inputs.now c.args.unproved.now false false c.args.steps.now) in
+    let S' = (lists c.pass_block.new.keeps c.pass_block.new.inputs c.pass_block.new.unproved c.pass_block.new.mark.raised c.pass_block.new.mark.looped c.pass_block.new.steps) in
     let same : c.code-code.result.now ≡ code = some_same (sym c.code-code.ensures.kept ∙ proc.code_is) in
     let run : Run program item code (given_of c.args.at.now) c.args.at.now.input.now c.enter_into.new.into c.pass_block.new.zone c.range_normed.result S S' = record {
       facts = facts_of program n item code c.program-program.ensures.resolution proc;
@@ -266,8 +287,8 @@ returns-clause-cost g c =
     let item = it.0 in
     let code = c.code-code.result.now in
     let proc : IsProc program n item code = record { place = it.1; code_is = c.code-code.ensures.kept } in
-    let S = (lists c.args.keeps.now c.args.inputs.now c.args.unproved.now false c.args.steps.now) in
-    let S' = (lists c.pass_block.new.keeps c.pass_block.new.inputs c.pass_block.new.unproved c.pass_block.new.mark.raised c.pass_block.new.steps) in
+    let S = (lists c.args.keeps.now c.args.inputs.now c.args.unproved.now false false c.args.steps.now) in
+    let S' = (lists c.pass_block.new.keeps c.pass_block.new.inputs c.pass_block.new.unproved c.pass_block.new.mark.raised c.pass_block.new.mark.looped c.pass_block.new.steps) in
     let same : c.code-code.result.now ≡ code = some_same (sym c.code-code.ensures.kept ∙ proc.code_is) in
     let run : Run program item code (given_of c.args.at.now) c.args.at.now.input.now c.enter_into.new.into c.pass_block.new.zone c.range_normed.result S S' = record {
       facts = facts_of program n item code c.program-program.ensures.resolution proc;
@@ -287,8 +308,8 @@ returns-clause-steps_rise g c =
     let item = it.0 in
     let code = c.code-code.result.now in
     let proc : IsProc program n item code = record { place = it.1; code_is = c.code-code.ensures.kept } in
-    let S = (lists c.args.keeps.now c.args.inputs.now c.args.unproved.now false c.args.steps.now) in
-    let S' = (lists c.pass_block.new.keeps c.pass_block.new.inputs c.pass_block.new.unproved c.pass_block.new.mark.raised c.pass_block.new.steps) in
+    let S = (lists c.args.keeps.now c.args.inputs.now c.args.unproved.now false false c.args.steps.now) in
+    let S' = (lists c.pass_block.new.keeps c.pass_block.new.inputs c.pass_block.new.unproved c.pass_block.new.mark.raised c.pass_block.new.mark.looped c.pass_block.new.steps) in
     let same : c.code-code.result.now ≡ code = some_same (sym c.code-code.ensures.kept ∙ proc.code_is) in
     let run : Run program item code (given_of c.args.at.now) c.args.at.now.input.now c.enter_into.new.into c.pass_block.new.zone c.range_normed.result S S' = record {
       facts = facts_of program n item code c.program-program.ensures.resolution proc;
@@ -308,8 +329,8 @@ returns-clause-counted g c still =
     let item = it.0 in
     let code = c.code-code.result.now in
     let proc : IsProc program n item code = record { place = it.1; code_is = c.code-code.ensures.kept } in
-    let S = (lists c.args.keeps.now c.args.inputs.now c.args.unproved.now false c.args.steps.now) in
-    let S' = (lists c.pass_block.new.keeps c.pass_block.new.inputs c.pass_block.new.unproved c.pass_block.new.mark.raised c.pass_block.new.steps) in
+    let S = (lists c.args.keeps.now c.args.inputs.now c.args.unproved.now false false c.args.steps.now) in
+    let S' = (lists c.pass_block.new.keeps c.pass_block.new.inputs c.pass_block.new.unproved c.pass_block.new.mark.raised c.pass_block.new.mark.looped c.pass_block.new.steps) in
     let same : c.code-code.result.now ≡ code = some_same (sym c.code-code.ensures.kept ∙ proc.code_is) in
     let run : Run program item code (given_of c.args.at.now) c.args.at.now.input.now c.enter_into.new.into c.pass_block.new.zone c.range_normed.result S S' = record {
       facts = facts_of program n item code c.program-program.ensures.resolution proc;

@@ -26,7 +26,7 @@ returns-clause-keeps g c inputs flags kept at =
           raised.0,
           subst (λ (z : Zone). IsJoin z c.args.seen.now raised.0) (sym c.index-keeps-k-2.is) raised.1,
           subst (IsRounded c.args.at.now.thresholds.now raised.0) same raised.2,
-          λ i. lists (slice_set c.args.keeps.now c.args.k (same i)) inputs flags true (c.tick.ensures i),
+          λ i. lists (slice_set c.args.keeps.now c.args.k (same i)) inputs flags true true (c.tick.ensures i),
         ),
       ),
     )

@@ -14,16 +14,20 @@ use Rattle.vmv_check.proofs.Lists.{at_place}
 use Rattle.vmv_pass.specs.Callees.{block_callees}
 use Rattle.vmv_pass.specs.Moves.{given_of, lists, Moves, MovesAll, AreCalled, HasSites, HaveSites}
 use Rattle.vmv_pass.proofs.Zips.{set_long}
+use Rattle.vmv_pass.proofs.Flags.{told_chain}
 use Rattle.vmv_pass.proofs.Rows.{row_takes, row_more, part_as, if_parts, if_moves, if_calls, call_size}
 use Rattle.vmv_pass.proofs.walk.+pass.Goals as goal
 
 pub pass_block-loop-stmt-preserved : goal.pass_block-loop-stmt-preserved
-pass_block-loop-stmt-preserved g t c =
-    row_more c.args.at.now.snapshot.now (given_of c.args.at.now) (length c.args.unproved.now) c.args.mark.now.keep c.args.mark.now.call c.args.block.now c.args.zone.now
-    (lists c.args.keeps.now c.args.inputs.now c.args.unproved.now c.args.mark.now.raised c.args.steps.now) c.loop-stmt.stmt-index c.loop-stmt.mark.keep c.loop-stmt.mark.call c.pass_stmt.new.mark.keep c.pass_stmt.new.mark.call
-    c.loop-stmt.zone c.pass_stmt.new.zone (lists c.loop-stmt.keeps c.loop-stmt.inputs c.loop-stmt.unproved c.loop-stmt.mark.raised c.loop-stmt.steps)
-    (lists c.pass_stmt.new.keeps c.pass_stmt.new.inputs c.pass_stmt.new.unproved c.pass_stmt.new.mark.raised c.pass_stmt.new.steps) c.stmt-item.result c.loop-stmt-test.true c.stmt-item.is c.loop-stmt.invariant
-    c.pass_stmt.ensures.moves c.pass_stmt.ensures.normal c.pass_stmt.ensures.vars c.pass_stmt.ensures.over c.pass_stmt.ensures.sizes c.pass_stmt.ensures.keep c.pass_stmt.ensures.call
+pass_block-loop-stmt-preserved g t c = record {
+  row =
+      row_more c.args.at.now.snapshot.now (given_of c.args.at.now) (length c.args.unproved.now) c.args.mark.now.keep c.args.mark.now.call c.args.block.now c.args.zone.now
+      (lists c.args.keeps.now c.args.inputs.now c.args.unproved.now c.args.mark.now.raised c.args.mark.now.looped c.args.steps.now) c.loop-stmt.stmt-index c.loop-stmt.mark.keep c.loop-stmt.mark.call c.pass_stmt.new.mark.keep c.pass_stmt.new.mark.call
+      c.loop-stmt.zone c.pass_stmt.new.zone (lists c.loop-stmt.keeps c.loop-stmt.inputs c.loop-stmt.unproved c.loop-stmt.mark.raised c.loop-stmt.mark.looped c.loop-stmt.steps)
+      (lists c.pass_stmt.new.keeps c.pass_stmt.new.inputs c.pass_stmt.new.unproved c.pass_stmt.new.mark.raised c.pass_stmt.new.mark.looped c.pass_stmt.new.steps) c.stmt-item.result c.loop-stmt-test.true c.stmt-item.is c.loop-stmt.invariant.row
+      c.pass_stmt.ensures.moves c.pass_stmt.ensures.normal c.pass_stmt.ensures.vars c.pass_stmt.ensures.over c.pass_stmt.ensures.sizes c.pass_stmt.ensures.keep c.pass_stmt.ensures.call;
+  told = told_chain c.args.inputs.now c.args.risen.now c.loop-stmt.inputs c.loop-stmt.risen c.pass_stmt.new.inputs c.pass_stmt.new.risen c.loop-stmt.invariant.told c.pass_stmt.ensures.told;
+}
 
 pub pass_block-pass_stmt-requires : goal.pass_block-pass_stmt-requires
 pass_block-pass_stmt-requires g t c κs within =
@@ -32,8 +36,8 @@ pass_block-pass_stmt-requires g t c κs within =
     let enough = c.requires.kept.enough in
     let calls = c.requires.calls in
     let x = row_takes c.args.at.now.snapshot.now (given_of c.args.at.now) (length c.args.unproved.now) c.args.mark.now.keep c.args.mark.now.call c.args.block.now c.args.zone.now
-    (lists c.args.keeps.now c.args.inputs.now c.args.unproved.now c.args.mark.now.raised c.args.steps.now) c.loop-stmt.stmt-index c.loop-stmt.mark.keep c.loop-stmt.mark.call t c.loop-stmt.zone
-    (lists c.loop-stmt.keeps c.loop-stmt.inputs c.loop-stmt.unproved c.loop-stmt.mark.raised c.loop-stmt.steps) c.stmt-item.result c.loop-stmt-test.true c.stmt-item.is c.loop-stmt.invariant c.requires.few (omega (arith, long, enough))
+    (lists c.args.keeps.now c.args.inputs.now c.args.unproved.now c.args.mark.now.raised c.args.mark.now.looped c.args.steps.now) c.loop-stmt.stmt-index c.loop-stmt.mark.keep c.loop-stmt.mark.call t c.loop-stmt.zone
+    (lists c.loop-stmt.keeps c.loop-stmt.inputs c.loop-stmt.unproved c.loop-stmt.mark.raised c.loop-stmt.mark.looped c.loop-stmt.steps) c.stmt-item.result c.loop-stmt-test.true c.stmt-item.is c.loop-stmt.invariant.row c.requires.few (omega (arith, long, enough))
     (omega (arith, wide, calls)) c.decreases in
     (x.falls, (within, (x.normal, (x.few, (x.ready, (subst (λ n. HasSites n (stmt_of c.stmt-item.result)) (sym c.loop-stmt.auto.unproved) x.sites, (x.kept, (x.called, (x.calls, (c.requires.results ∙ sym wide, c.requires.scale))))))))))
 
@@ -86,8 +90,8 @@ pass_repeat-returns-clause-moves g t c =
     let k = c.args.mark.now.keep in
     let flag = c.head_in_place-flag.result in
     let flags = slice_set c.args.unproved.now (r.site - 1) flag in
-    let S1 = lists c.raise_keep.new.keeps c.args.inputs.now flags c.raise_keep.new.raised c.raise_keep.new.steps in
-    let S2 = lists c.pass_block.new.keeps c.pass_block.new.inputs c.pass_block.new.unproved c.pass_block.new.mark.raised c.pass_block.new.steps in
+    let S1 = lists c.raise_keep.new.keeps c.args.inputs.now flags c.raise_keep.new.raised c.raise_keep.new.looped c.raise_keep.new.steps in
+    let S2 = lists c.pass_block.new.keeps c.pass_block.new.inputs c.pass_block.new.unproved c.pass_block.new.mark.raised c.pass_block.new.mark.looped c.pass_block.new.steps in
     let one : loops (loop_of r) ≡ 1 + block_loops (block_of r.body) = refl in
     let enough = c.requires.kept.enough in
     let long : length c.raise_keep.new.keeps ≡ length c.args.keeps.now = c.raise_keep.auto.keeps in
@@ -208,9 +212,9 @@ pub pass_if-returns-clause-moves : goal.pass_if-returns-clause-moves
 pass_if-returns-clause-moves g t c =
     if_moves (given_of c.args.at.now) c.args.mark.now.keep c.args.mark.now.call c.pass_block.new.mark.keep c.pass_block.new.mark.call c.args.test.now (block_of c.args.first.now) (block_of c.args.second.now)
     c.args.zone.now c.branch_in_place.new.zone c.branch_in_place.new.other c.pass_block.new.zone c.pass_block-2.new.zone c.join_with.new.self
-    (lists c.args.keeps.now c.args.inputs.now c.args.unproved.now c.args.mark.now.raised c.args.steps.now)
-    (lists c.pass_block.new.keeps c.pass_block.new.inputs c.pass_block.new.unproved c.pass_block.new.mark.raised c.pass_block.new.steps)
-    (lists c.pass_block-2.new.keeps c.pass_block-2.new.inputs c.pass_block-2.new.unproved c.pass_block-2.new.mark.raised c.pass_block-2.new.steps)
+    (lists c.args.keeps.now c.args.inputs.now c.args.unproved.now c.args.mark.now.raised c.args.mark.now.looped c.args.steps.now)
+    (lists c.pass_block.new.keeps c.pass_block.new.inputs c.pass_block.new.unproved c.pass_block.new.mark.raised c.pass_block.new.mark.looped c.pass_block.new.steps)
+    (lists c.pass_block-2.new.keeps c.pass_block-2.new.inputs c.pass_block-2.new.unproved c.pass_block-2.new.mark.raised c.pass_block-2.new.mark.looped c.pass_block-2.new.steps)
     c.branch_in_place.ensures.branched c.pass_block.ensures.keep c.pass_block.ensures.call c.pass_block.ensures.moves c.pass_block-2.ensures.moves c.join_with.ensures.join
 
 pub pass_if-returns-clause-call : goal.pass_if-returns-clause-call
@@ -224,22 +228,26 @@ pass_stmt-pass_call-requires-clause-size g t c =
 
 pub pass_stmt-returns-in-Plain-clause-moves : goal.pass_stmt-returns-in-Plain-clause-moves
 pass_stmt-returns-in-Plain-clause-moves g t c =
-    subst (λ s. Moves (given_of c.args.at.now) c.args.mark.now.keep c.args.mark.now.call s c.args.zone.now (lists c.args.keeps.now c.args.inputs.now c.args.unproved.now c.args.mark.now.raised c.args.steps.now) c.pass_simple.new.zone
-    (lists c.args.keeps.now c.args.inputs.now c.pass_simple.new.unproved c.args.mark.now.raised c.args.steps.now)) (sym (is_plain c.args.stmt.now c.in-Plain.simple c.in-Plain.is))
-    (c.pass_simple.ensures.moves c.args.mark.now.keep c.args.mark.now.call c.args.keeps.now c.args.inputs.now c.args.mark.now.raised c.args.steps.now)
+    subst (λ s. Moves (given_of c.args.at.now) c.args.mark.now.keep c.args.mark.now.call s c.args.zone.now (lists c.args.keeps.now c.args.inputs.now c.args.unproved.now c.args.mark.now.raised c.args.mark.now.looped c.args.steps.now) c.pass_simple.new.zone
+    (lists c.args.keeps.now c.args.inputs.now c.pass_simple.new.unproved c.args.mark.now.raised c.args.mark.now.looped c.args.steps.now)) (sym (is_plain c.args.stmt.now c.in-Plain.simple c.in-Plain.is))
+    (c.pass_simple.ensures.moves c.args.mark.now.keep c.args.mark.now.call c.args.keeps.now c.args.inputs.now c.args.mark.now.raised c.args.mark.now.looped c.args.steps.now)
 
 pub pass_stmt-returns-in-Help-clause-moves : goal.pass_stmt-returns-in-Help-clause-moves
 pass_stmt-returns-in-Help-clause-moves g t c =
-    let S = lists c.args.keeps.now c.args.inputs.now c.args.unproved.now c.args.mark.now.raised c.args.steps.now in
-    let S' = lists c.args.keeps.now c.pass_call.new.inputs c.args.unproved.now c.pass_call.new.raised c.args.steps.now in
+    let S = lists c.args.keeps.now c.args.inputs.now c.args.unproved.now c.args.mark.now.raised c.args.mark.now.looped c.args.steps.now in
+    let S' = lists c.args.keeps.now c.pass_call.new.inputs c.args.unproved.now c.pass_call.new.raised c.args.mark.now.looped c.args.steps.now in
     subst (λ s. Moves (given_of c.args.at.now) c.args.mark.now.keep c.args.mark.now.call s c.args.zone.now S c.pass_call.new.zone S') (sym (is_help c.args.stmt.now c.in-Help.to c.in-Help.callee c.in-Help.args c.in-Help.is))
     (subst (λ (xs : List CodeOperand). Moves (given_of c.args.at.now) c.args.mark.now.keep c.args.mark.now.call (help c.in-Help.to c.in-Help.callee xs) c.args.zone.now S c.pass_call.new.zone S') c.as_slice.ensures
-    (c.pass_call.ensures.moves c.args.mark.now.keep c.in-Help.callee c.args.keeps.now c.args.unproved.now c.args.steps.now))
+    (c.pass_call.ensures.moves c.args.mark.now.keep c.in-Help.callee c.args.keeps.now c.args.unproved.now c.args.mark.now.looped c.args.steps.now))
 
 pub pass_stmt-returns-in-If-clause-moves : goal.pass_stmt-returns-in-If-clause-moves
 pass_stmt-returns-in-If-clause-moves g t c =
-    let S = lists c.args.keeps.now c.args.inputs.now c.args.unproved.now c.args.mark.now.raised c.args.steps.now in
-    let S' = lists c.pass_if.new.keeps c.pass_if.new.inputs c.pass_if.new.unproved c.pass_if.new.mark.raised c.pass_if.new.steps in
+    let S = lists c.args.keeps.now c.args.inputs.now c.args.unproved.now c.args.mark.now.raised c.args.mark.now.looped c.args.steps.now in
+    let S' = lists c.pass_if.new.keeps c.pass_if.new.inputs c.pass_if.new.unproved c.pass_if.new.mark.raised c.pass_if.new.mark.looped c.pass_if.new.steps in
     subst (λ (s : Stmt). Moves (given_of c.args.at.now) c.args.mark.now.keep c.args.mark.now.call s c.args.zone.now S c.pass_if.new.zone S')
     (sym (if_of c.args.stmt.now c.in-If.test c.in-If.first c.in-If.second c.as_slice-in-If.result.now c.as_slice-in-If-2.result.now c.in-If.is c.as_slice-in-If.ensures c.as_slice-in-If-2.ensures))
     c.pass_if.ensures.moves
+
+pub pass_if-returns-clause-told : goal.pass_if-returns-clause-told
+pass_if-returns-clause-told g t c =
+    told_chain c.args.inputs.now c.args.risen.now c.pass_block.new.inputs c.pass_block.new.risen c.pass_block-2.new.inputs c.pass_block-2.new.risen c.pass_block.ensures.told c.pass_block-2.ensures.told
