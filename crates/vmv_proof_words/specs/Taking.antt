@@ -1,9 +1,10 @@
 -- What a word may tell, and what is taken from the front of words.
-use Rattle.std.specs.Prelude.{◌≡◌, ℕ, ◌<◌, ◌^◌, ◌-◌, ℤ, pos, negsuc, ◌≤ℤ◌, Option, Some, None, List, ◌∷◌, IsTrue}
+use Rattle.std.specs.Prelude.{◌≡◌, ℕ, ◌<◌, ◌^◌, ◌-◌, ℤ, pos, negsuc, ◌≤ℤ◌, Option, Some, None, List, [], ◌∷◌, IsTrue}
 use Rattle.std.specs.Fmt.{decimal, signed_decimal}
 use Rattle.vmv_tree.specs.Names.{is_name}
 use Rattle.vmv_tree.specs.Words.{IsWord}
 use Rattle.vmv_tree.specs.declared.name.Name.{Name}
+use Rattle.vmv_witness.specs.Numbers.{IsNumber}
 use Rattle.vmv_proof_words.specs.Words.{Word}
 
 abbrev pub IsNameWord : Name → Word → Type 0
@@ -34,3 +35,12 @@ Tells {A} Is word None = (x : A) → Is x word → ⊥
 abbrev pub Takes : {A : Type 0} → (A → Word → Type 0) → List Word → List Word → Option A → Type 0
 Takes Is old new (Some x) = (word : Word) × Is x word × (old ≡ word ∷ new)
 Takes {A} Is old new None = (x : A) (word : Word) (words : List Word) → Is x word → old ≡ word ∷ words → ⊥
+
+-- the only word tells this; or there is not one word alone that tells something of the kind
+abbrev pub TakesLast : {A : Type 0} → (A → Word → Type 0) → List Word → Option A → Type 0
+TakesLast Is words (Some x) = (word : Word) × Is x word × (words ≡ word ∷ [])
+TakesLast {A} Is words None = (x : A) (word : Word) → Is x word → words ≡ word ∷ [] → ⊥
+
+-- a number of any size, and no other word
+abbrev pub IsOneNumber : List Word → Type 0
+IsOneNumber words = (word : Word) × IsNumber word × (words ≡ word ∷ [])

@@ -3,7 +3,7 @@ ghost use Rattle.std.specs.Bool.{OnTrue, OnFalse};
 ghost use Rattle.vmv_witness.specs.Numbers.{IsNumber};
 ghost use Rattle.vmv_witness.specs.Reading.{lacks};
 ghost use Rattle.vmv_proof_words.specs.Words.{Word, words_of, words_behind};
-ghost use Rattle.vmv_proof_words.specs.Taking.{IsNameWord, IsNaturalWord, IsEndWord, IsBoundWord, Takes};
+ghost use Rattle.vmv_proof_words.specs.Taking.{IsNameWord, IsNaturalWord, IsEndWord, IsBoundWord, Takes, TakesLast, IsOneNumber};
 
 use crate::number::{bound_of, count_of, end_of, is_number, natural_of};
 use std::marker::Model;
@@ -147,5 +147,28 @@ impl<'a> Words<'a> {
             return None;
         }
         Some(word)
+    }
+
+    /// The number of 32 bits that the last word tells, where no other is left.
+    pub fn last_count(&mut self) -> Option<u32>
+        ensures { TakesLast (IsNaturalWord 32) self.old result }
+    {
+        let Some(count) = self.next_count() else {
+            return None;
+        };
+        if !self.is_done() {
+            return None;
+        }
+        Some(count)
+    }
+
+    /// Whether the last word is a number of any size, and no other is left.
+    pub fn is_last_number(&mut self) -> bool
+        ensures { IsTrue result ↔ IsOneNumber self.old }
+    {
+        let Some(_) = self.next_number() else {
+            return false;
+        };
+        self.is_done()
     }
 }
