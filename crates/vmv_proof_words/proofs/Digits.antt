@@ -152,3 +152,6 @@ high_end_not_read word y h high z k = let e = bound_once y z word h (end_is_boun
 
 pub zero_not_read : (word : Word) (m : ℕ) → IsNaturalWord 64 m word → m ≡ 0 → (n : ℕ) → IsNaturalWord 64 (suc n) word → ⊥
 zero_not_read word m h e n k = omega (arith, e, natural_once m (suc n) word h k)
+
+pub natural_number : (n : ℕ) → n < 2 ^ 64 → IsNumber (decimal n)
+natural_number n h = inl (decimal_natural n h)

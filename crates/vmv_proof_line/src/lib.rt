@@ -1,0 +1,12 @@
+//! The lines of a proof's text: what each tells.
+#![tactic(auto)]
+
+mod counts;
+mod fault;
+mod names;
+mod rows;
+
+pub use counts::{read_entries, read_exclusions, read_table};
+pub use fault::LineFault;
+pub use names::{is_end, is_given, is_opening, read_plain};
+pub use rows::{RowHead, read_row};
