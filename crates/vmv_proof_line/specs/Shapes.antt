@@ -1,11 +1,15 @@
 -- Lines of a word and what stands behind it.
-use Rattle.std.specs.Prelude.{◌≡◌, ℕ, List, [], ◌∷◌, ◌++◌}
-use Rattle.std.specs.Fmt.{decimal}
+use Rattle.std.specs.Prelude.{◌≡◌, ◌⊎◌, ℕ, Bool, true, false, Option, Some, None, List, [], ◌∷◌, ◌++◌, codes}
+use Rattle.std.specs.Fmt.{decimal, signed_decimal}
 use Rattle.vmv_tree.specs.declared.name.Name.{Name}
+use Rattle.vmv_cond.specs.declared.cond.Piece.{Piece}
+use Rattle.vmv_cond.specs.declared.cond.Piece.TheVariants.{Below, Above, Zero}
+use Rattle.vmv_witness.specs.Numbers.{IsNumber}
+use Rattle.vmv_proof_words.specs.Words.{Word}
 use Rattle.vmv_proof_text.specs.Text.{spaced}
-use Rattle.vmv_proof_text.specs.Lines.{IsCount, IsName}
+use Rattle.vmv_proof_text.specs.Lines.{IsCount, IsName, IsPiece}
 use Rattle.vmv_proof_text.specs.Loose.{IsLoosely}
-use Rattle.vmv_proof_text.specs.Parts.{row_part}
+use Rattle.vmv_proof_text.specs.Parts.{row_part, exclude_part}
 
 -- the word and a number of 32 bits
 abbrev pub IsCountLine : List ℕ → ℕ → List ℕ → Type 0
@@ -18,3 +22,27 @@ IsNameLine word name line = IsName name × (line ≡ word ++ spaced name)
 -- what a line tells of the head of a row, but for the size of its number
 abbrev pub IsRowLoosely : List ℕ → Type 0
 IsRowLoosely line = IsLoosely (row_part [] 0) line
+
+-- the words of a piece
+abbrev pub piece_words : Piece → List Word
+piece_words (Below end) = codes "below" ∷ signed_decimal end ∷ []
+piece_words (Above end) = codes "above" ∷ signed_decimal end ∷ []
+piece_words Zero = codes "zero" ∷ []
+
+-- the words of a piece with an end of any size
+abbrev pub IsPieceWords : List Word → Type 0
+IsPieceWords words =
+    ((end : Word) × IsNumber end × (words ≡ codes "below" ∷ end ∷ [])) ⊎ ((end : Word) × IsNumber end × (words ≡ codes "above" ∷ end ∷ [])) ⊎ (words ≡ codes "zero" ∷ [])
+
+-- a piece stands first, and is taken; or none does
+abbrev pub TakesPiece : List Word → List Word → Option Piece → Type 0
+TakesPiece old new (Some piece) = IsPiece piece × (old ≡ piece_words piece ++ new)
+TakesPiece old new None = (piece : Piece) (rest : List Word) → IsPiece piece → old ≡ piece_words piece ++ rest → ⊥
+
+abbrev pub TakesPieceLoosely : List Word → List Word → Bool → Type 0
+TakesPieceLoosely old new true = (words : List Word) × IsPieceWords words × (old ≡ words ++ new)
+TakesPieceLoosely old new false = (words rest : List Word) → IsPieceWords words → old ≡ words ++ rest → ⊥
+
+-- what a line tells of the head of an exclusion, but for the size of its numbers
+abbrev pub IsExcludeLoosely : List ℕ → Type 0
+IsExcludeLoosely line = IsLoosely (exclude_part [] [] Zero 0) line

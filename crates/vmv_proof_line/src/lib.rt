@@ -2,11 +2,13 @@
 #![tactic(auto)]
 
 mod counts;
+mod exclude;
 mod fault;
 mod names;
 mod rows;
 
 pub use counts::{read_entries, read_exclusions, read_table};
+pub use exclude::{ExcludeHead, read_exclude};
 pub use fault::LineFault;
 pub use names::{is_end, is_given, is_opening, read_plain};
 pub use rows::{RowHead, read_row};

@@ -7,7 +7,7 @@ use Rattle.std.specs.List.{list_all}
 use Rattle.std.specs.Str.{IsUtf8}
 use Rattle.std.specs.Str.Parse.{ParsesUnsigned, digits_value}
 use Rattle.std.specs.declared.num.ParseIntError.{ParseIntError}
-use Rattle.std.proofs.lemmas.Bool.{and_from, ne_eqb}
+use Rattle.std.proofs.lemmas.Bool.{and_from, ne_eqb, cases_lt}
 use Rattle.std.proofs.lemmas.Fmt.{digits_decimal, decimal_nonempty, first_decimal, decimal_digit, decimal_is_IsNumeral_wide, decimal-digits_value, parse-decimal, IsAscii-from_digits}
 use Rattle.std.proofs.lemmas.Str.{IsUtf8-from_ascii}
 use Rattle.std.proofs.lemmas.Str.Parse.{IsNumeralModel, numerals_by_value, IsDigitsTest, parse_digits}
@@ -155,3 +155,26 @@ zero_not_read word m h e n k = omega (arith, e, natural_once m (suc n) word h k)
 
 pub natural_number : (n : ℕ) → n < 2 ^ 64 → IsNumber (decimal n)
 natural_number n h = inl (decimal_natural n h)
+
+wide_digits : (n : ℕ) → n < 10 ^ 64 → AreDigits (decimal n)
+wide_digits n h = own.from (decimal n) (decimal_is_IsNumeral_wide n h).0.1
+
+wide_natural : (n : ℕ) → n < 2 ^ 64 → IsNatural (decimal (suc n))
+wide_natural n small = by (cases_lt (suc n) (2 ^ 64))
+  where
+    by : (suc n < 2 ^ 64) ⊎ (2 ^ 64 ≤ suc n) → IsNatural (decimal (suc n))
+    by (inl less) = decimal_natural (suc n) less
+    by (inr most) = subst IsNatural (sym (ap decimal {x = suc n} {y = 2 ^ 64} (omega arith) ∙ widest)) (refl, omega arith, λ e. absurd (omega arith))
+
+wide_some : (n : ℕ) → n < 2 ^ 64 → decimal (suc n) ≢ codes "0"
+wide_some n small e =
+    let zero_is : decimal 0 ≡ codes "0" = decimal_digit 0 (omega arith) in
+    omega (arith, decimal_once (suc n) 0 (omega arith) (omega arith) (e ∙ sym zero_is))
+
+bound_number : (z : ℤ) → IsBetween z → IsNumber (signed_decimal z)
+bound_number (pos n) h = inl (decimal_natural n (between_below n h))
+bound_number (negsuc n) h = inr (decimal (suc n), refl, wide_natural n (between_above n h), wide_some n (between_above n h))
+
+-- an end is a number
+pub end_number : (z : ℤ) (word : Word) → IsEndWord z word → IsNumber word
+end_number z word h = subst IsNumber (sym h.1) (bound_number z (end_is_bound z word h).0)
