@@ -5,10 +5,12 @@ mod counts;
 mod exclude;
 mod fault;
 mod names;
+mod ranges;
 mod rows;
 
 pub use counts::{read_entries, read_exclusions, read_table};
 pub use exclude::{ExcludeHead, read_exclude};
 pub use fault::LineFault;
 pub use names::{is_end, is_given, is_opening, read_plain};
+pub use ranges::read_box;
 pub use rows::{RowHead, read_row};

@@ -178,3 +178,7 @@ bound_number (negsuc n) h = inr (decimal (suc n), refl, wide_natural n (between_
 -- an end is a number
 pub end_number : (z : ℤ) (word : Word) → IsEndWord z word → IsNumber word
 end_number z word h = subst IsNumber (sym h.1) (bound_number z (end_is_bound z word h).0)
+
+-- a word tells one end
+pub end_once : (y z : ℤ) (word : Word) → IsEndWord y word → IsEndWord z word → y ≡ z
+end_once y z word h k = bound_once y z word (end_is_bound y word h) (end_is_bound z word k)
