@@ -1,5 +1,5 @@
 -- Pairs of words, one behind another.
-use Rattle.std.proofs.Common.{◌≡◌, ◌↔◌, ℕ, ◌+◌, ◌<◌, ◌≤◌, ℤ, ◌≤ℤ◌, ◌<ℤ◌, Bool, List, [], ◌∷◌, ◌++◌, length, refl, sym, ap, ◌∙◌, subst, IsTrue, arith, append_assoc, length-append}
+use Rattle.std.proofs.Common.{◌≡◌, ℕ, ◌<◌, ◌≤◌, ℤ, ◌<ℤ◌, List, [], ◌∷◌, ◌++◌, length, refl, sym, ap, ◌∙◌, arith, append_assoc, length-append}
 use Rattle.std.specs.Prelude.{codes}
 use Rattle.std.specs.List.{All, flat_map}
 use Rattle.std.specs.Fmt.{signed_decimal}
@@ -16,9 +16,8 @@ use Rattle.vmv_proof_words.specs.Taking.{IsEndWord}
 use Rattle.vmv_proof_words.proofs.Splitting.{Clean, spaced_words, words_of_line, line_of_words}
 use Rattle.vmv_proof_words.proofs.Digits.{end_number, end_once}
 use Rattle.vmv_proof_text.specs.Parts.{box_part}
-use Rattle.vmv_proof_text.specs.Text.{spaced, range_words}
+use Rattle.vmv_proof_text.specs.Text.{spaced}
 use Rattle.vmv_proof_text.specs.Lines.{IsLine, IsRange}
-use Rattle.vmv_proof_text.specs.Loose.{spelled_range}
 use Rattle.vmv_proof_line.specs.Shapes.{range_pair, AreNumbers, IsBoxLoosely}
 use Rattle.vmv_proof_line.proofs.Fields.{number_clean, tails}
 

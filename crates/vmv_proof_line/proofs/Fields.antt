@@ -1,5 +1,5 @@
 -- Lines of a few words.
-use Rattle.std.proofs.Common.{◌≡◌, ◌↔◌, ℕ, ◌<◌, ◌^◌, Bool, true, false, List, [], ◌∷◌, ◌++◌, drop, refl, sym, ap, ◌∙◌, subst, IsTrue, arith, append_assoc}
+use Rattle.std.proofs.Common.{◌≡◌, ◌↔◌, ℕ, Bool, true, false, List, [], ◌∷◌, ◌++◌, drop, refl, sym, ap, ◌∙◌, subst, IsTrue, arith, append_assoc}
 use Rattle.std.specs.Prelude.{Option, Some, None, Err, codes}
 use Rattle.std.specs.Fmt.{decimal}
 use Rattle.std.proofs.lemmas.List.{append-nil}
@@ -14,10 +14,9 @@ use Rattle.vmv_proof_words.proofs.Splitting.{words_of_line, line_of_words}
 use Rattle.vmv_proof_words.proofs.Digits.{number_lacks, natural_number}
 use Rattle.vmv_proof_text.specs.Parts.{row_part}
 use Rattle.vmv_proof_text.specs.Text.{spaced}
-use Rattle.vmv_proof_text.specs.Lines.{IsCount, IsName, IsLine}
+use Rattle.vmv_proof_text.specs.Lines.{IsCount, IsLine}
 use Rattle.vmv_proof_text.specs.Loose.{IsCountLoosely}
 use Rattle.vmv_proof_line.specs.declared.fault.LineFault.{LineFault}
-use Rattle.vmv_proof_line.specs.declared.fault.LineFault.TheVariants.{Form, Size}
 use Rattle.vmv_proof_line.specs.Reading.{Reads, fault_at}
 use Rattle.vmv_proof_line.specs.Shapes.{IsCountLine, IsNameLine, IsRowLoosely}
 

@@ -1,5 +1,5 @@
 -- The head of an exclusion.
-use Rattle.std.proofs.Common.{◌≡◌, ◌⊎◌, inl, inr, ◌↔◌, ℕ, Bool, true, false, List, [], ◌∷◌, ◌++◌, get_or, drop, refl, sym, ap, ◌∙◌, subst, IsTrue, arith, append_assoc}
+use Rattle.std.proofs.Common.{◌≡◌, inl, inr, ◌↔◌, ℕ, Bool, true, false, List, [], ◌∷◌, ◌++◌, get_or, drop, refl, sym, ap, ◌∙◌, subst, IsTrue, arith}
 use Rattle.std.specs.Prelude.{codes}
 use Rattle.std.specs.Bool.{OnTrue, OnFalse}
 use Rattle.std.specs.Fmt.{decimal, signed_decimal}
@@ -12,12 +12,12 @@ use Rattle.vmv_cond.specs.declared.cond.Piece.TheVariants.{Below, Above, Zero}
 use Rattle.vmv_witness.specs.Numbers.{IsNumber}
 use Rattle.vmv_witness.specs.Reading.{lacks}
 use Rattle.vmv_proof_words.specs.Words.{Word, words_of}
-use Rattle.vmv_proof_words.specs.Taking.{IsNameWord, IsNaturalWord, IsOneNumber, IsEndWord}
+use Rattle.vmv_proof_words.specs.Taking.{IsNameWord, IsNaturalWord, IsOneNumber}
 use Rattle.vmv_proof_words.proofs.Splitting.{Clean, spaced_words, words_of_line, line_of_words}
 use Rattle.vmv_proof_words.proofs.Digits.{end_number}
 use Rattle.vmv_proof_text.specs.Parts.{exclude_part}
 use Rattle.vmv_proof_text.specs.Text.{spaced, piece_text}
-use Rattle.vmv_proof_text.specs.Lines.{IsLine, IsPiece, IsCount}
+use Rattle.vmv_proof_text.specs.Lines.{IsLine, IsPiece}
 use Rattle.vmv_proof_text.specs.Loose.{IsPieceLoosely}
 use Rattle.vmv_proof_line.specs.Shapes.{piece_words, IsPieceWords, TakesPieceLoosely, IsExcludeLoosely}
 use Rattle.vmv_proof_line.proofs.Fields.{number_clean, name_clean, count_clean, tails, behind}

@@ -1,6 +1,6 @@
 -- Numbers and their digits.
-use Rattle.std.proofs.Common.{◌≡◌, ◌≢◌, ◌⊎◌, inl, inr, ℕ, zero, suc, ◌-◌, ◌<◌, ◌≤◌, ◌^◌, true, ℤ, pos, negsuc, Ok, Err, List, [], ◌∷◌, length, get_or, refl, sym, ap, subst, ◌∙◌, IsTrue, arith, rules}
-use Rattle.std.specs.Prelude.{not, neg_ℤ, codes, slice_index, int_le, int_lt}
+use Rattle.std.proofs.Common.{◌≡◌, ◌≢◌, ◌⊎◌, inl, inr, ℕ, zero, suc, ◌-◌, ◌<◌, ◌≤◌, ◌^◌, true, ℤ, pos, negsuc, Ok, Err, List, [], ◌∷◌, length, refl, sym, ap, subst, ◌∙◌, IsTrue, arith, rules}
+use Rattle.std.specs.Prelude.{not, neg_ℤ, codes, slice_index, int_lt}
 use Rattle.std.specs.Fmt.{decimal, signed_decimal, digits}
 use Rattle.std.specs.Char.{is_ascii_digit}
 use Rattle.std.specs.List.{list_all}
@@ -12,7 +12,6 @@ use Rattle.std.proofs.lemmas.Fmt.{digits_decimal, decimal_nonempty, first_decima
 use Rattle.std.proofs.lemmas.Str.{IsUtf8-from_ascii}
 use Rattle.std.proofs.lemmas.Str.Parse.{IsNumeralModel, numerals_by_value, IsDigitsTest, parse_digits}
 use Rattle.std.proofs.lemmas.Int.{ints}
-use Rattle.vmv_tree.specs.Words.{IsWord}
 use Rattle.vmv_witness.specs.Numbers.{IsNatural, IsNumber}
 use Rattle.vmv_witness.specs.Reading.{lacks}
 use Rattle.vmv_proof_words.specs.Words.{Word}

@@ -1,4 +1,4 @@
-use Rattle.std.proofs.Common.{◌∷◌, [], refl, ◌++◌, sym, ◌∙◌}
+use Rattle.std.proofs.Common.{◌∷◌, [], refl, ◌++◌}
 use Rattle.std.specs.Prelude.{codes}
 use Rattle.std.proofs.lemmas.Bool.{false≢true}
 use Rattle.vmv_proof_line.proofs.Fields.{behind}

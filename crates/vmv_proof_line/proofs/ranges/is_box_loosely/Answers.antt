@@ -1,7 +1,7 @@
 use Rattle.std.proofs.Common.{◌∷◌, [], ◌++◌, refl, arith, length-append}
 use Rattle.std.proofs.lemmas.Bool.{iff_false, false≢true}
 use Rattle.vmv_proof_line.specs.Shapes.{AreNumbers}
-use Rattle.vmv_proof_line.proofs.Boxes.{ArePairsRead, itself, pairs, numbers_spelled, pairs_more, no_pair, too_many, loose_words_of_box, box_loose}
+use Rattle.vmv_proof_line.proofs.Boxes.{itself, pairs, numbers_spelled, pairs_more, no_pair, too_many, loose_words_of_box, box_loose}
 use Rattle.vmv_proof_line.proofs.ranges.is_box_loosely.Goals as goal
 
 pub returns-in_default : goal.returns-in_default

@@ -1,5 +1,4 @@
-use Rattle.std.proofs.Common.{rules, arith}
-use Rattle.std.proofs.lemmas.Int.{ints}
+use Rattle.std.proofs.Common.{rules}
 use Rattle.vmv_proof_words.proofs.Digits.{low_end_not_read, high_end_not_read}
 use Rattle.vmv_proof_words.proofs.number.end_of.Goals as goal
 

@@ -1,4 +1,4 @@
-use Rattle.std.proofs.Common.{ℕ, length, take, sym, ap, subst, ◌≡◌, IsTrue, arith}
+use Rattle.std.proofs.Common.{length, take, subst, ◌≡◌, IsTrue, arith}
 use Rattle.vmv_witness.specs.Reading.{lacks}
 use Rattle.vmv_proof_words.proofs.Splitting.{split_words}
 use Rattle.vmv_proof_words.proofs.words.word_length.Goals as goal
