@@ -1,0 +1,4 @@
+pub mod Asking
+pub mod Writing
+pub mod Exchanging
+pub mod Determined
