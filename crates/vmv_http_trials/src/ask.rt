@@ -1,7 +1,7 @@
 use crate::each::{put_cuts, put_each};
 use crate::links::put_whole;
 use crate::requests::with_returns;
-use crate::sessions::put_session;
+use crate::sessions::{put_gated, put_session};
 use std::alloc::Global;
 use vmv_cases::{Case, Sheet, number, tail, word};
 
@@ -29,6 +29,8 @@ pub(crate) fn answer(alloc: Global, case: &Case, ask: &[u8], sheet: &mut Sheet) 
     let what = word(ask, 0);
     if what == b"session".as_slice() {
         put_session(alloc, case, tail(ask, 1), sheet);
+    } else if what == b"gate".as_slice() {
+        put_gated(alloc, case, tail(ask, 1), sheet);
     } else if what == b"raw".as_slice() {
         about(alloc, case, ask, case.text(word(ask, 1)), sheet);
     } else {

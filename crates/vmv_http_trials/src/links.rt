@@ -5,7 +5,7 @@ use vmv_cases::{Case, Sheet};
 use vmv_desk::Desk;
 use vmv_edge::MemoryLink;
 use vmv_http::{Served, serve_one};
-use vmv_keeper::{MemoryJudge, MemoryKeeper};
+use vmv_keeper::{Judge, MemoryKeeper};
 
 /// A desk over a store in memory without rows, whose calls with these numbers fail.
 pub(crate) fn desk(
@@ -43,10 +43,10 @@ fn link(
 }
 
 /// Serves a request, and answers how, with the link behind it.
-pub(crate) fn serve(
+pub(crate) fn serve<J: Judge>(
     alloc: Global,
     desk: &mut Desk<MemoryKeeper>,
-    judge: &MemoryJudge,
+    judge: &J,
     request: &[u8],
     most: usize,
     failing: Vec<u64>,

@@ -5,8 +5,9 @@ use crate::show::body;
 use std::alloc::Global;
 use vmv_cases::{Case, Sheet, number};
 use vmv_desk::Desk;
+use vmv_gate::Gate;
 use vmv_http::Served;
-use vmv_keeper::{MemoryJudge, MemoryKeeper};
+use vmv_keeper::{Judge, MemoryKeeper};
 
 /// The numbers that a line writes.
 fn calls(alloc: Global, line: &[u8], sheet: &mut Sheet) -> Vec<u64> {
@@ -26,10 +27,10 @@ fn calls(alloc: Global, line: &[u8], sheet: &mut Sheet) -> Vec<u64> {
 }
 
 /// Writes the status and the body of the answer to a line's request.
-fn put_turn(
+fn put_turn<J: Judge>(
     alloc: Global,
     desk: &mut Desk<MemoryKeeper>,
-    judge: &MemoryJudge,
+    judge: &J,
     line: &[u8],
     sheet: &mut Sheet,
 ) {
@@ -46,16 +47,26 @@ fn put_turn(
     }
 }
 
-/// `? session CALL ..`: the answers to the requests of the text `requests`, over a store whose calls with these numbers fail.
-pub(crate) fn put_session(alloc: Global, case: &Case, line: &[u8], sheet: &mut Sheet) {
-    let judge = judge(alloc, case, sheet);
+/// Writes the answers to the requests of the text `requests`, over a store whose calls with these numbers fail.
+fn put_turns<J: Judge>(alloc: Global, case: &Case, judge: &J, line: &[u8], sheet: &mut Sheet) {
     let failing = calls(alloc, line, sheet);
     let Some(mut desk) = desk(alloc, failing, sheet) else {
         return;
     };
     for line in case.text(b"requests").split(|byte| *byte == b'\n') {
         if !line.is_empty() {
-            put_turn(alloc, &mut desk, &judge, line, sheet);
+            put_turn(alloc, &mut desk, judge, line, sheet);
         }
     }
+}
+
+/// `? session CALL ..`: the answers by the judge whom the case tells what to say.
+pub(crate) fn put_session(alloc: Global, case: &Case, line: &[u8], sheet: &mut Sheet) {
+    let judge = judge(alloc, case, sheet);
+    put_turns(alloc, case, &judge, line, sheet);
+}
+
+/// `? gate CALL ..`: the answers by the gate.
+pub(crate) fn put_gated(alloc: Global, case: &Case, line: &[u8], sheet: &mut Sheet) {
+    put_turns(alloc, case, &Gate::new(&(), 1), line, sheet);
 }
