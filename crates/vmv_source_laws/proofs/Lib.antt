@@ -1,0 +1,4 @@
+pub mod Plain
+pub mod Limits
+pub mod Mentions
+pub mod OneFault
