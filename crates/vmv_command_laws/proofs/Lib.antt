@@ -1,0 +1,6 @@
+pub mod Determined
+pub mod Files
+pub mod Replaying
+pub mod Reviewing
+pub mod Outputs
+pub mod Words
