@@ -7,6 +7,7 @@ mod fault;
 mod names;
 mod ranges;
 mod rows;
+mod states;
 
 pub use counts::{read_entries, read_exclusions, read_table};
 pub use exclude::{ExcludeHead, read_exclude};

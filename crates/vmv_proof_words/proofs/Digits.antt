@@ -170,7 +170,7 @@ wide_some n small e =
     let zero_is : decimal 0 ≡ codes "0" = decimal_digit 0 (omega arith) in
     omega (arith, decimal_once (suc n) 0 (omega arith) (omega arith) (e ∙ sym zero_is))
 
-bound_number : (z : ℤ) → IsBetween z → IsNumber (signed_decimal z)
+pub bound_number : (z : ℤ) → IsBetween z → IsNumber (signed_decimal z)
 bound_number (pos n) h = inl (decimal_natural n (between_below n h))
 bound_number (negsuc n) h = inr (decimal (suc n), refl, wide_natural n (between_above n h), wide_some n (between_above n h))
 
