@@ -1,3 +1,4 @@
+pub mod Reaches
 pub mod Fields
 pub mod Heads
 pub mod Boxes

@@ -1,3 +1,4 @@
+pub mod Reaches
 pub mod Reading
 pub mod Shapes
 pub mod StateWords

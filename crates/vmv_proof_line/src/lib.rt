@@ -4,8 +4,10 @@
 mod counts;
 mod exclude;
 mod fault;
+mod halves;
 mod names;
 mod ranges;
+mod result;
 mod rows;
 mod states;
 
@@ -14,4 +16,5 @@ pub use exclude::{ExcludeHead, read_exclude};
 pub use fault::LineFault;
 pub use names::{is_end, is_given, is_opening, read_plain};
 pub use ranges::read_box;
+pub use result::read_result;
 pub use rows::{RowHead, read_row};
