@@ -1,4 +1,5 @@
 pub mod Reaches
+pub mod SiteWords
 pub mod Fields
 pub mod Heads
 pub mod Boxes

@@ -1,4 +1,5 @@
 pub mod Reaches
+pub mod SiteWords
 pub mod Reading
 pub mod Shapes
 pub mod StateWords
