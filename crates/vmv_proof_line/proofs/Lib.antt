@@ -7,3 +7,5 @@ pub mod Climbing
 pub mod StateNaming
 pub mod StateLoops
 pub mod StateTold
+pub mod LooseLoops
+pub mod LooseTold

@@ -9,6 +9,9 @@ use Rattle.std.proofs.lemmas.List.{append-nil}
 use Rattle.std.proofs.lemmas.List.Concat.{flat_map-append}
 use Rattle.vmv_zone.specs.declared.zone.Zone.{Zone}
 use Rattle.vmv_zone.specs.Zone.{vars_of, bound_of, mark_of, NotBottom, IsTop}
+use Rattle.std.proofs.Common.{pos}
+use Rattle.std.proofs.lemmas.Int.{ints}
+use Rattle.vmv_zone.proofs.PointStates.{point_state}
 use Rattle.vmv_witness.specs.Numbers.{IsNumber}
 use Rattle.vmv_witness.specs.Reading.{lacks}
 use Rattle.vmv_proof_words.specs.Words.{Word, words_of}
@@ -117,7 +120,7 @@ all_told top zone next begin mid first last end w v t e f g taken k marks =
           (f ∙ ap (λ b. codes "bounds" ∷ b) (taken.words ∙ ap (λ b. counted bound_triple taken.bounds ++ b) (k ∙ ap (λ b. codes "nonzero" ∷ b) marks.same))));
     }
 
-other_first : (v w : Word) (vs ws : List Word) → v ∷ vs ≡ w ∷ ws → (get_or v 0 0 ≡ get_or w 0 0 → ⊥) → ⊥
+pub other_first : (v w : Word) (vs ws : List Word) → v ∷ vs ≡ w ∷ ws → (get_or v 0 0 ≡ get_or w 0 0 → ⊥) → ⊥
 other_first v w vs ws e h = h (ap (λ l. get_or (get_or l 0 []) 0 0) e)
 
 -- the words behind `vars` tell the state
@@ -132,10 +135,10 @@ vars_tell old new word None e f none = by
     by z (inl (w, h, k)) = other_first (codes "vars") (codes "bottom") new (w ∷ []) (whole ∙ k) (λ s. omega arith)
     by z (inr (rest, h, k)) = none z (subst (IsToldWords z) (sym (tails (codes "vars") (codes "vars") new rest (whole ∙ k))) h)
 
-decimal_clean : (n : ℕ) → n < 2 ^ 64 → IsTrue (lacks 32 (decimal n))
+pub decimal_clean : (n : ℕ) → n < 2 ^ 64 → IsTrue (lacks 32 (decimal n))
 decimal_clean n h = number_clean (decimal n) (natural_number n h)
 
-append_clean : (xs ys : List Word) → Clean xs → Clean ys → Clean (xs ++ ys)
+pub append_clean : (xs ys : List Word) → Clean xs → Clean ys → Clean (xs ++ ys)
 append_clean [] ys h k = k
 append_clean (x ∷ xs) ys h k = (h.0, append_clean xs ys h.1 k)
 
@@ -161,7 +164,7 @@ told_clean z bounds small n =
     (refl, (decimal_clean (vars_of z) (omega (arith, small)), (refl, append_clean (counted bound_triple bounds) (marks_words z) (bounds_clean (vars_of z) bounds small (naming_climbs z bounds small n))
     (refl, marks_clean (vars_of z) (marked_variables z) small (state_marks z)))))
 
-spaced_list : {A : Type 0} (show : A → List Word) (text : A → List ℕ) → ((x : A) → spaced_words (show x) ≡ text x) → (xs : List A) → spaced_words (flat_map show xs) ≡ flat_map text xs
+pub spaced_list : {A : Type 0} (show : A → List Word) (text : A → List ℕ) → ((x : A) → spaced_words (show x) ≡ text x) → (xs : List A) → spaced_words (flat_map show xs) ≡ flat_map text xs
 spaced_list show text h [] = refl
 spaced_list show text h (x ∷ xs) =
     let more = spaced_list show text h xs in
@@ -186,7 +189,7 @@ told_bytes vars bounds marks =
     ∙ ((λ i. codes " vars " ++ (decimal vars ++ (codes " bounds " ++ (decimal (length bounds) ++ (bs i ++ (codes " nonzero " ++ (decimal (length marks) ++ ms i)))))))
     ∙ ap (λ t. codes " vars " ++ (decimal vars ++ (codes " bounds " ++ t))) (sym (append_assoc (decimal (length bounds)) (flat_map bound_words bounds) (marks_text marks))))
 
-bottom_bytes : (word : Word) → spaced_words (codes "bottom" ∷ word ∷ []) ≡ codes " bottom " ++ word
+pub bottom_bytes : (word : Word) → spaced_words (codes "bottom" ∷ word ∷ []) ≡ codes " bottom " ++ word
 bottom_bytes word = ap (λ t. codes " bottom " ++ t) (append-nil word)
 
 pub words_line : (line word : List ℕ) (words : List Word) (z : Zone) → words_of line ≡ word ∷ words → IsStateWords z words → IsStateLine word z line
@@ -220,3 +223,7 @@ no_line line word clean none z h = let r = line_words line word z clean h in non
 pub state_tells : (line word : List ℕ) (words : List Word) (r : Option Zone) → IsTrue (lacks 32 word) → words_of line ≡ word ∷ words → TellsState words r → Tells (IsStateLine word) line r
 state_tells line word words (Some z) clean e h = words_line line word words z e h
 state_tells line word words None clean e none = λ z h. let r = line_words line word z clean h in none z (subst (IsStateWords z) (sym (behind line word words r.0 e r.1)) r.2)
+
+-- a state
+pub any_state : Zone
+any_state = (point_state 0 (λ i. pos 0) (omega arith) refl (λ k h. grind (arith, ints))).state

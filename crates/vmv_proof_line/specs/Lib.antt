@@ -3,3 +3,4 @@ pub mod SiteWords
 pub mod Reading
 pub mod Shapes
 pub mod StateWords
+pub mod LooseWords

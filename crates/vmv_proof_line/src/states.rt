@@ -5,8 +5,12 @@ ghost use Rattle.vmv_zone.specs.Zone.{vars_of, IsTop, NotBottom, IsMarked};
 ghost use Rattle.vmv_witness.specs.Reading.{lacks};
 ghost use Rattle.vmv_proof_words.specs.Taking.{Takes, TakesLast, Tells};
 ghost use Rattle.vmv_proof_text.specs.Lines.{IsStateLine};
+ghost use Rattle.vmv_proof_text.specs.Parts.{input_part, keep_part};
+ghost use Rattle.vmv_proof_line.specs.Reading.{ReadsLine};
 ghost use Rattle.vmv_proof_line.specs.StateWords.{IsThingWord, IsUnderTop, IsBottomWord, TakesBound, TakesMark, AreTaken, NoBounds, LastMarks, NoMarks, TellsTold, TellsState};
 
+use crate::fault::{LineFault, fault_of};
+use crate::loose_states::is_state_loosely;
 use vmv_proof_words::Words;
 use vmv_zone::Zone;
 
@@ -182,7 +186,7 @@ fn state_of(words: &mut Words) -> Option<Zone>
 }
 
 /// The state that the line tells behind this word.
-pub(crate) fn told_state(line: &[u8], word: &[u8]) -> Option<Zone>
+fn told_state(line: &[u8], word: &[u8]) -> Option<Zone>
     requires { IsTrue (lacks 32 word.now) }
     ensures { Tells (IsStateLine word.now) line.now result }
 {
@@ -190,4 +194,24 @@ pub(crate) fn told_state(line: &[u8], word: &[u8]) -> Option<Zone>
         return None;
     };
     state_of(&mut words)
+}
+
+/// Reads the input of a row.
+pub fn read_input(line: &[u8]) -> Result<Zone, LineFault>
+    ensures { ReadsLine input_part line.now result }
+{
+    match told_state(line, b"input") {
+        Some(state) => Ok(state),
+        None => Err(fault_of(is_state_loosely(line, b"input"))),
+    }
+}
+
+/// Reads what a row keeps at a loop.
+pub fn read_keep(line: &[u8]) -> Result<Zone, LineFault>
+    ensures { ReadsLine keep_part line.now result }
+{
+    match told_state(line, b"keep") {
+        Some(state) => Ok(state),
+        None => Err(fault_of(is_state_loosely(line, b"keep"))),
+    }
 }
