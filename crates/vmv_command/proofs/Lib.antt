@@ -3,3 +3,4 @@ pub mod Verdict
 pub mod Fitting
 pub mod Regression
 pub mod Reviewing
+pub mod Rechecking

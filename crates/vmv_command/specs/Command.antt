@@ -12,10 +12,15 @@ use Rattle.vmv_command.specs.Reviews.{ReviewsPrograms}
 use Rattle.vmv_command.specs.Baselines.{BaselinesProgram}
 use Rattle.vmv_command.specs.Faults.{OnProgram}
 use Rattle.vmv_command.specs.Replays.{ReplaysTexts}
+use Rattle.vmv_command.specs.Rechecks.{RechecksTexts}
 
--- the most bytes that a text may have
+-- the most bytes that a text may have, if it isn't a proof's
 abbrev pub text_most : ℕ
 text_most = 1048576
+
+-- the most bytes that the text of a proof may have
+abbrev pub proof_most : ℕ
+proof_most = 67108864
 
 abbrev pub usage : List ℕ
 usage = codes "usage: vmv review BASE REV [--workers N] [--proof] | baseline BASE [--workers N] | recheck BASE REV PROOF | replay REV WITNESS | sample NUMBER [--workers N] | serve ADDRESS STORE COUNT [--workers N]"
@@ -32,12 +37,14 @@ abbrev pub ReviewsTexts : Bool → (base revision : List ℕ) → List ℕ → �
 ReviewsTexts proved base revision printed status =
     OnProgram (codes "base") base (λ B. OnProgram (codes "revision") revision (ReviewsPrograms proved B)) printed status
 
--- what is asked for, over what a shelf tells; all texts are read before any is looked at. The check of a proof isn't done yet.
+-- what is asked for, over what a shelf tells; all texts are read before any is looked at
 abbrev pub Does : (Word → Option (List ℕ)) → Request → List ℕ → ℕ → Type 0
 Does told (review base revision count proved) printed status =
     OnFile told base (codes "base") text_most (λ b. OnFile told revision (codes "revision") text_most (ReviewsTexts proved b)) printed status
 Does told (baseline base count) printed status = OnFile told base (codes "base") text_most (λ b. OnProgram (codes "base") b BaselinesProgram) printed status
-Does told (recheck base revision proof) printed status = IsLine usage 9 printed status
+Does told (recheck base revision proof) printed status =
+    OnFile told base (codes "base") text_most (λ b. OnFile told revision (codes "revision") text_most (λ r. OnFile told proof (codes "proof") proof_most (RechecksTexts b r)))
+    printed status
 Does told (replay revision witness) printed status =
     OnFile told revision (codes "revision") text_most (λ r. OnFile told witness (codes "witness") text_most (ReplaysTexts r)) printed status
 
@@ -59,6 +66,18 @@ VerdictHolds words told before after =
     (base_name revision_name base revision old printed : List ℕ) (B R : List Item) →
     IsReview words base_name revision_name → told base_name ≡ Some base → told revision_name ≡ Some revision → IsText base B → IsText revision R →
     before ≡ Some old → after ≡ Some (old ++ printed) → SaysRelativelyCorrect printed → RelCorrect B R
+
+-- the words ask for the check of a proof for two texts under these names
+abbrev pub IsRecheck : List Word → (base_name revision_name : Word) → Type 0
+IsRecheck words base_name revision_name = (proof_name : Word) × Asks words (recheck base_name revision_name proof_name)
+
+-- Where the words ask for the check of a proof, the shelf tells the texts of base and revision, they are texts of the programs B and R,
+-- and the status is 0: every environment that is safe for B is safe for R.
+abbrev pub ProofHolds : List (List ℕ) → (List ℕ → Option (List ℕ)) → ℕ → Type 0
+ProofHolds words told status =
+    (base_name revision_name base revision : List ℕ) (B R : List Item) →
+    IsRecheck words base_name revision_name → told base_name ≡ Some base → told revision_name ≡ Some revision → IsText base B → IsText revision R →
+    status ≡ 0 → RelCorrect B R
 
 -- a status that says that the output was printed whole
 abbrev pub IsWhole : ℕ → Type 0

@@ -4,5 +4,6 @@ pub mod Reviews
 pub mod Work
 pub mod Baselines
 pub mod Replays
+pub mod Rechecks
 pub mod Command
 pub mod Regressions

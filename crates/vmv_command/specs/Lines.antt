@@ -7,6 +7,14 @@ use Rattle.vmv_report.specs.Texts.{line}
 abbrev pub IsLine : List ℕ → ℕ → List ℕ → ℕ → Type 0
 IsLine text meant printed status = (printed ≡ line text) × (status ≡ meant)
 
+-- The line of a text that departs from its format at a line, behind what the text is called: by the size of numbers alone (range), or
+-- otherwise (syntax).
+abbrev pub syntax_end : ℕ → List ℕ
+syntax_end at = codes ": syntax at line " ++ line (decimal at)
+
+abbrev pub range_end : ℕ → List ℕ
+range_end at = codes ": range at line " ++ line (decimal at)
+
 -- behind the name of a site's procedure
 abbrev pub site_end : ℕ → List ℕ
 site_end site = line (codes "#" ++ decimal site)

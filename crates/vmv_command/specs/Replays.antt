@@ -17,14 +17,13 @@ use Rattle.vmv_witness.specs.declared.fitting.Unfit.TheVariants.{NoEntry, ParamC
 use Rattle.vmv_witness.specs.Text.{IsTextOf}
 use Rattle.vmv_witness.specs.Faults.{IsWhy}
 use Rattle.vmv_witness.specs.Fit.{words_of, Fits}
-use Rattle.vmv_report.specs.Texts.{line}
-use Rattle.vmv_command.specs.Lines.{IsLine, site_end}
+use Rattle.vmv_command.specs.Lines.{IsLine, syntax_end, range_end, site_end}
 use Rattle.vmv_command.specs.Faults.{OnProgram}
 
 -- what the line of a fault has behind `witness`; want of memory has no line
 abbrev pub witness_fault_end : WitnessFault → List ℕ
-witness_fault_end (fault.Syntax at) = codes ": syntax at line " ++ line (decimal at)
-witness_fault_end (fault.Range at) = codes ": range at line " ++ line (decimal at)
+witness_fault_end (fault.Syntax at) = syntax_end at
+witness_fault_end (fault.Range at) = range_end at
 witness_fault_end (fault.Limit found) = codes ": limit bytes found " ++ (decimal found ++ codes " most 1048576\n")
 witness_fault_end fault.Memory = []
 

@@ -2,17 +2,19 @@ ghost use Rattle.std.specs.Prelude.{◌≡◌, ◌≢◌, ◌⊎◌, ℕ, List, 
 ghost use Rattle.std.specs.String.{string_bytes};
 ghost use Rattle.vmv_words.specs.Words.{AsksNothing};
 ghost use Rattle.vmv_words.specs.Requests.{request_of};
-ghost use Rattle.vmv_command.specs.Command.{IsWhole, Does, Outputs, VerdictHolds};
+ghost use Rattle.vmv_command.specs.Command.{IsWhole, Does, Outputs, VerdictHolds, ProofHolds};
 ghost use Rattle.vmv_command.specs.Regressions.{RegressionHolds};
 ghost use Rattle.vmv_edge.specs.Outside.{Rose, Appended, AppendedFront};
 
 use crate::baselines::baseline_file;
 use crate::output::{Output, Stop, print};
+use crate::rechecks::recheck_files;
 use crate::replays::replay_files;
 use crate::review::review_files;
 use std::alloc::Global;
 use std::thread::Threads;
 use vmv_edge::{Door, Shelf, Sink, Vault};
+use vmv_proof_check::accepted_proofs_are_sound;
 use vmv_report::{correct_verdicts_hold, only_correct_reports_say_so, regressing_reports_show_it};
 use vmv_words::{Request, read_words, words_ask_for_one_thing};
 
@@ -33,18 +35,23 @@ fn output_of<F: Shelf>(alloc: Global, shelf: &mut F, request: &Request) -> Resul
             ..
         } => review_files(alloc, shelf, *base, *revision, *proof),
         Request::Baseline { base, .. } => baseline_file(alloc, shelf, *base),
-        Request::Recheck { .. } => Ok(Output::of(alloc, USAGE, 9)?),
+        Request::Recheck {
+            base,
+            revision,
+            proof,
+        } => recheck_files(alloc, shelf, *base, *revision, *proof),
         Request::Replay { revision, witness } => replay_files(alloc, shelf, *revision, *witness),
     }
 }
 
 /// Does the command that the words say, and gives its status: for a review 0 where the revision is relatively correct to the
-/// base, 1 where there are alarms, 2 where there is a regression, and 3 where the base is vacuous; for a replay 0 where the
-/// run fails at the named site of the witness, and 1 where it doesn't or the witness doesn't fit; 5 for a text that meets a
-/// limit, 4 for one that has another fault, 6 where a read failed, 7 where a write failed, 8 where memory ran out, 9 for
-/// other words.
+/// base, 1 where there are alarms, 2 where there is a regression, and 3 where the base is vacuous; for the check of a proof 0
+/// where it is accepted and no row is left, and 1 where rows are left or it is refused; for a replay 0 where the run fails at
+/// the named site of the witness, and 1 where it doesn't or the witness doesn't fit; 5 for a text that meets a limit, 4 for
+/// one that has another fault, 6 where a read failed, 7 where a write failed, 8 where memory ran out, 9 for other words.
 ///
-/// Both texts are read first, each of at most 1,048,576 bytes; then the work is done; then the whole output is written.
+/// All texts are read first, a proof's of at most 67,108,864 bytes and each other of at most 1,048,576; then the work is done;
+/// then the whole output is written.
 pub fn run<R: Threads + Sync, F: Shelf, O: Sink, V: Vault, D: Door>(
     _rt: &R,
     alloc: Global,
@@ -64,11 +71,13 @@ pub fn run<R: Threads + Sync, F: Shelf, O: Sink, V: Vault, D: Door>(
     ensures others_stand { (V.fault_count _vault.new ≡ V.fault_count _vault.old) × (D.fault_count _door.new ≡ D.fault_count _door.old) }
     ensures prefix { result ≡ 7 → (printed : List ℕ) × (status : ℕ) × Outputs (map string_bytes words.now) (F.told shelf.old) printed status × AppendedFront (O.taken out.old) printed (O.taken out.new) }
     ensures relatively_correct { VerdictHolds (map string_bytes words.now) (F.told shelf.old) (O.taken out.old) (O.taken out.new) }
+    ensures accepted { ProofHolds (map string_bytes words.now) (F.told shelf.old) result }
     ensures regression { RegressionHolds (map string_bytes words.now) (F.told shelf.old) (O.taken out.old) (O.taken out.new) result }
 {
     correct_verdicts_hold();
     only_correct_reports_say_so();
     regressing_reports_show_it();
+    accepted_proofs_are_sound();
     words_ask_for_one_thing();
     let request = match read_words(alloc, words) {
         Ok(Some(request)) => request,

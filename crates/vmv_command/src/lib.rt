@@ -6,6 +6,7 @@ mod command;
 mod faults;
 mod files;
 mod output;
+mod rechecks;
 mod replays;
 mod review;
 
@@ -15,3 +16,8 @@ pub use command::run;
 pub(crate) const TEXT_MOST: u32 = 1_048_576;
 
 pub(crate) const TEXT_MOST_BYTES: usize = 1_048_576;
+
+// The most bytes that the text of a proof may have.
+pub(crate) const PROOF_MOST: u32 = 67_108_864;
+
+pub(crate) const PROOF_MOST_BYTES: usize = 67_108_864;

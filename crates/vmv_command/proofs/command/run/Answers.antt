@@ -1,11 +1,12 @@
 use Rattle.std.proofs.Common.{inl, inr, map, refl, Global}
 use Rattle.std.specs.String.{string_bytes}
 use Rattle.vmv_report.specs.Texts.{line}
-use Rattle.vmv_words.specs.Words.{review, AsksNothing}
+use Rattle.vmv_words.specs.Words.{review, recheck, AsksNothing}
 use Rattle.vmv_words.specs.Requests.{request_of}
 use Rattle.vmv_command.specs.Command.{usage}
 use Rattle.vmv_command.proofs.Verdict.{verdict_holds, nothing_said, some_front}
 use Rattle.vmv_command.proofs.Regression.{regression_printed}
+use Rattle.vmv_command.proofs.Rechecking.{accepted_holds}
 use Rattle.vmv_command.proofs.command.run.Goals as goal
 
 pub returns-in-Ok-None-clause-output : goal.returns-in-Ok-None-clause-output
@@ -62,3 +63,13 @@ returns-in-Err-Failed-clause-relatively_correct g c b r base revision old printe
 pub returns-in-Err-Memory-clause-relatively_correct : goal.returns-in-Err-Memory-clause-relatively_correct
 returns-in-Err-Memory-clause-relatively_correct g c b r base revision old printed B R review_is told_b told_r text_b text_r was is said =
     absurd (nothing_said (g.O.Sink.taken c.args.out.now) old printed was is said)
+
+pub returns-in-Ok-clause-accepted : goal.returns-in-Ok-clause-accepted
+returns-in-Ok-clause-accepted g c =
+    accepted_holds c.accepted_proofs_are_sound.ensures c.words_ask_for_one_thing.ensures (request_of c.in-Ok-Some.request) (map (string_bytes {Z = Global}) c.args.words.now) (g.F.Shelf.told c.args.shelf.now)
+    c.in-Ok.output.text c.in-Ok.output.status c.print-in-Ok.result (rw c.in-Ok-Some.field-0-is at c.in-Ok-Some.ensures) c.in-Ok.ensures.output c.print-in-Ok.ensures.status
+
+pub returns-in-Ok-None-clause-accepted : goal.returns-in-Ok-None-clause-accepted
+returns-in-Ok-None-clause-accepted g c b r base revision B R (proof_name, asks) =
+    let nothing : AsksNothing (map (string_bytes {Z = Global}) c.args.words.now) = rw c.in-Ok-None.field-0-is at c.in-Ok-None.ensures in
+    absurd (nothing (recheck b r proof_name) asks)
