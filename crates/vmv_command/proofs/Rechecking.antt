@@ -1,5 +1,8 @@
 -- Where the check of a proof has status 0, the revision is relatively correct.
 use Rattle.std.proofs.Common.{◌≡◌, ◌≢◌, inl, inr, ⊎_elim, ℕ, ◌==◌, nat_lt, Bool, true, false, if◌then◌else◌, Option, Some, List, length, codes, refl, sym, subst, ◌∙◌}
+use Rattle.std.specs.Prelude.{Result, Ok, Err}
+use Rattle.std.specs.Result.{IfOk}
+use Rattle.std.specs.declared.alloc.AllocError.{AllocError}
 use Rattle.std.proofs.lemmas.Bool.{eqb-true}
 use Rattle.vmv_tree.specs.declared.defect.Defect.{Defect}
 use Rattle.vmv_tree.specs.declared.defect.Defect.TheVariants.{UnknownName, Repeated, ArityWrong, IndexAssigned, RangeEmpty, Limit}
@@ -16,10 +19,12 @@ use Rattle.vmv_proof_read.specs.declared.fault.ProofFault.{ProofFault}
 use Rattle.vmv_proof_read.specs.declared.fault.ProofFault.TheVariants as proof_fault
 use Rattle.vmv_proof_check.specs.declared.claims.Claims.{Claims}
 use Rattle.vmv_proof_read.specs.Why.{AreFew}
-use Rattle.vmv_proof_check.specs.Proofs.{IsProofAccepted, IsSmall}
+use Rattle.vmv_proof_check.specs.declared.claims.Part.{Part}
+use Rattle.vmv_proof_check.specs.Proofs.{IsProofAccepted, IsProofRefused, IsSmall}
+use Rattle.vmv_command.specs.declared.output.Output.{Output}
 use Rattle.vmv_command.specs.Lines.{SaysTooLong}
 use Rattle.vmv_command.specs.Faults.{SaysFault, fault_status, defect_status}
-use Rattle.vmv_command.specs.Rechecks.{proof_fault_status, accepted_status, ChecksProof, RechecksPrograms, RechecksProof, RechecksTexts}
+use Rattle.vmv_command.specs.Rechecks.{proof_fault_status, accepted_status, SaysRefused, ChecksProof, RechecksPrograms, RechecksProof, RechecksTexts}
 use Rattle.vmv_command.specs.Command.{text_most, proof_most, OnFile, Does, ProofHolds}
 use Rattle.vmv_command.proofs.Verdict.{on_told, cases, AskOnce}
 
@@ -31,6 +36,18 @@ ProofsHold =
 -- a proof that was read may be checked
 pub small_of : (p : Proof) → AreFew p → IsSmall p
 small_of p h = record { exclusions = h.exclusions; shown = h.shown; excluding = h.excluding; plain = h.plain; given = h.given }
+
+-- the line of a proof that is refused is what its check prints
+pub refused_so : (base revision : Resolution) (proof : Proof) (part : Part) (row step : ℕ) (r : Result Output AllocError) → IsResolution base → IsResolution revision
+    → IsProofRefused base revision proof part row step → IfOk r (λ o. SaysRefused part row step o.text o.status) → IfOk r (λ o. RechecksPrograms (tree_of base) (tree_of revision) proof o.text o.status)
+refused_so base revision proof part row step (Err error) base_is revision_is refused says = tt
+refused_so base revision proof part row step (Ok o) base_is revision_is refused says = record {
+  base_code = base;
+  base_is = record { tree = refl; resolution = base_is };
+  revision_code = revision;
+  revision_is = record { tree = refl; resolution = revision_is };
+  checks = inr (part, row, step, refused, says);
+}
 
 defect_is_not : (d : Defect) → defect_status d ≡ 0 → ⊥
 defect_is_not UnknownName e = absurd (cc)
