@@ -1,5 +1,5 @@
 -- Things that follow each other, read one by one from their words.
-use Rattle.std.proofs.Common.{◌≡◌, ◌⊎◌, inl, inr, ℕ, suc, ◌+◌, ◌<◌, ◌≤◌, ◌^◌, List, [], ◌∷◌, ◌++◌, length, refl, sym, ap, ◌∙◌, subst, arith, append_assoc, length-append}
+use Rattle.std.proofs.Common.{◌≡◌, ◌⊎◌, inl, inr, ℕ, ◌+◌, ◌<◌, ◌≤◌, ◌^◌, List, [], ◌∷◌, ◌++◌, length, refl, sym, ap, ◌∙◌, subst, arith, append_assoc, length-append}
 use Rattle.std.specs.List.{flat_map, Contains}
 use Rattle.std.specs.Fmt.{decimal}
 use Rattle.std.proofs.lemmas.List.{append-nil}
@@ -8,7 +8,7 @@ use Rattle.std.proofs.lemmas.List.Elements.{Contains-append_cases, Contains-push
 use Rattle.vmv_proof_words.specs.Words.{Word}
 use Rattle.vmv_proof_words.specs.Taking.{IsNaturalWord}
 use Rattle.vmv_proof_words.proofs.Digits.{natural_once}
-use Rattle.vmv_proof_line.specs.StateWords.{Climb, counted}
+use Rattle.vmv_proof_line.specs.StateWords.{Climb}
 use Rattle.vmv_proof_line.proofs.Fields.{tails}
 
 -- the last of them
@@ -33,7 +33,7 @@ are_left Next at show once p [] xs words rest c d n e = record { more = xs; size
 are_left Next at show once p (x ∷ read) [] words rest c d n e = absurd (omega (arith, n))
 are_left Next at show once p (x ∷ read) (y ∷ xs) words rest c d n e =
     let both = once p p x y (flat_map show read ++ words) (flat_map show xs ++ rest) c.0 d.0
-        (sym (append_assoc (show x) (flat_map show read) words) ∙ (e ∙ append_assoc (show y) (flat_map show xs) rest)) in
+    (sym (append_assoc (show x) (flat_map show read) words) ∙ (e ∙ append_assoc (show y) (flat_map show xs) rest)) in
     let r = are_left Next at show once (at x) read xs words rest c.1 (subst (λ z. Climb Next at (at z) xs) (sym both.0) d.1) (omega (arith, n)) both.1 in
     record { more = r.more; size = omega (arith, r.size); climb = r.climb; left = r.left }
 

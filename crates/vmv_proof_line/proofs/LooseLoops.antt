@@ -1,16 +1,15 @@
 -- Bounds and marks of any size are read one by one.
-use Rattle.std.proofs.Common.{◌≡◌, ◌⊎◌, ◌↔◌, ℕ, ◌+◌, ◌<◌, ◌≤◌, ◌^◌, Bool, List, [], ◌∷◌, ◌++◌, length, refl, sym, ap, ◌∙◌, subst, arith, IsTrue, append_assoc, length-append}
+use Rattle.std.proofs.Common.{◌≡◌, ℕ, ◌<◌, ◌≤◌, ◌^◌, List, [], ◌∷◌, ◌++◌, length, refl, sym, ap, ◌∙◌, subst, arith, length-append}
 use Rattle.std.specs.List.{flat_map}
 use Rattle.std.specs.Fmt.{decimal}
 use Rattle.std.proofs.lemmas.List.{append-nil}
-use Rattle.vmv_witness.specs.Numbers.{IsNumber}
 use Rattle.vmv_proof_words.specs.Words.{Word}
 use Rattle.vmv_proof_words.specs.Taking.{IsNaturalWord}
-use Rattle.vmv_proof_text.specs.Loose.{Digits, SpelledBound, AreNumbers, IsLess}
+use Rattle.vmv_proof_text.specs.Loose.{Digits, SpelledBound}
 use Rattle.vmv_proof_line.specs.StateWords.{Climb, counted}
-use Rattle.vmv_proof_line.specs.LooseWords.{Follows, FollowsMark, NextBound, NextMark, things_of, spelled_triple, spelled_mark, AreTakenLoosely, AreLastMarks}
+use Rattle.vmv_proof_line.specs.LooseWords.{Follows, FollowsMark, NextBound, NextMark, spelled_triple, spelled_mark}
 use Rattle.vmv_proof_line.proofs.Fields.{tails}
-use Rattle.vmv_proof_line.proofs.Climbing.{IsOnce, AreRead, none_read, one_more, no_next, same_number, all_left}
+use Rattle.vmv_proof_line.proofs.Climbing.{IsOnce, AreRead, no_next, same_number, all_left}
 
 -- another number behind the first
 pub second_number : (old mid : List Word) (u : Word) → old ≡ u ∷ mid → (a : Word) (rest : List Word) → old ≡ a ∷ rest → (u ≡ a) × (mid ≡ rest)

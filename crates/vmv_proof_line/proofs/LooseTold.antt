@@ -1,5 +1,5 @@
 -- A state with numbers of any size, from its line.
-use Rattle.std.proofs.Common.{◌≡◌, ◌⊎◌, inl, inr, ◌↔◌, ℕ, ◌+◌, ◌<◌, ◌≤◌, ◌^◌, Bool, List, [], ◌∷◌, ◌++◌, get_or, length, refl, sym, ap, ◌∙◌, subst, arith, IsTrue, length-append}
+use Rattle.std.proofs.Common.{◌≡◌, ◌⊎◌, inl, inr, ◌↔◌, ℕ, ◌<◌, ◌≤◌, ◌^◌, Bool, List, [], ◌∷◌, ◌++◌, length, refl, sym, ap, ◌∙◌, subst, arith, IsTrue, length-append}
 use Rattle.std.specs.Prelude.{codes}
 use Rattle.std.specs.List.{All, flat_map}
 use Rattle.std.specs.Fmt.{decimal}
@@ -11,11 +11,11 @@ use Rattle.vmv_proof_words.specs.Words.{Word, words_of}
 use Rattle.vmv_proof_words.specs.Taking.{IsOneNumber}
 use Rattle.vmv_proof_words.proofs.Splitting.{Clean, spaced_words, words_of_line, line_of_words}
 use Rattle.vmv_proof_text.specs.Text.{spaced}
-use Rattle.vmv_proof_text.specs.Loose.{Digits, SpelledBound, AreNumbers, Precedes, AreSorted, IsLess, spelled_bound, IsToldLoosely, IsStateLoosely}
+use Rattle.vmv_proof_text.specs.Loose.{Digits, SpelledBound, AreNumbers, Precedes, AreSorted, IsLess, spelled_bound}
 use Rattle.vmv_proof_line.specs.StateWords.{Climb, counted}
-use Rattle.vmv_proof_line.specs.LooseWords.{Follows, FollowsMark, IsVariable, NextBound, NextMark, things_of, spelled_triple, spelled_mark, AreLooseBounds, AreLooseMarks, AreTakenLoosely, NoBoundsLoosely, AreLastMarks, IsToldLooselyBy, IsStateLooselyBy, IsStateLineLoosely}
+use Rattle.vmv_proof_line.specs.LooseWords.{IsVariable, NextBound, things_of, spelled_triple, spelled_mark, AreLooseBounds, AreLooseMarks, AreTakenLoosely, NoBoundsLoosely, AreLastMarks, IsToldLooselyBy, IsStateLooselyBy, IsStateLineLoosely}
 use Rattle.vmv_proof_line.proofs.Fields.{tails, behind, number_clean}
-use Rattle.vmv_proof_line.proofs.LooseLoops.{second_number, triple_once, triple_some, mark_some, left_behind}
+use Rattle.vmv_proof_line.proofs.LooseLoops.{second_number, triple_once, triple_some, left_behind}
 use Rattle.vmv_proof_line.proofs.StateTold.{append_clean, decimal_clean, other_first, spaced_list, told_spaced, bottom_bytes}
 
 -- numbers that follow each other, as a list is sorted
@@ -226,10 +226,18 @@ line_long : (line word bytes : List ℕ) → line ≡ word ++ bytes → length b
 line_long line word bytes e = omega (arith, ap length e, length-append word bytes)
 
 loose_clean : (vars : Digits) (bounds : List SpelledBound) (marks : List Digits) → length bounds < 2 ^ 64 → length marks < 2 ^ 64 → IsNumber vars → All AreNumbers bounds → All IsVariable marks → Clean (codes "vars" ∷ loose_words vars bounds marks)
-loose_clean vars bounds marks few_bounds few_marks n g k =
-    (refl, (number_clean vars n, (refl, append_clean (counted spelled_triple bounds) (rest_words marks)
-    (decimal_clean (length bounds) few_bounds, list_clean AreNumbers spelled_triple (λ b h. (number_clean b.0 h.first, (number_clean b.1 h.second, (number_clean b.2 h.bound, tt)))) bounds g)
-    (refl, (decimal_clean (length marks) few_marks, list_clean IsVariable spelled_mark (λ m h. (number_clean m h.0, tt)) marks k)))))
+loose_clean vars bounds marks few_bounds few_marks n g k = (
+  refl,
+  (
+    number_clean vars n,
+    (
+      refl,
+      append_clean (counted spelled_triple bounds) (rest_words marks)
+          (decimal_clean (length bounds) few_bounds, list_clean AreNumbers spelled_triple (λ b h. (number_clean b.0 h.first, (number_clean b.1 h.second, (number_clean b.2 h.bound, tt)))) bounds g)
+          (refl, (decimal_clean (length marks) few_marks, list_clean IsVariable spelled_mark (λ m h. (number_clean m h.0, tt)) marks k)),
+    ),
+  ),
+)
 
 pub loose_line : (line word : List ℕ) → length line < 2 ^ 64 → IsTrue (lacks 32 word) → IsStateLineLoosely word line → (words : List Word) × (words_of line ≡ word ∷ words) × IsStateLooselyBy words
 loose_line line word small clean (bytes, e, inl (v, n, k)) =
@@ -243,15 +251,19 @@ loose_line line word small clean (bytes, e, inr h) =
       ap words_of (e ∙ ap (λ t. word ++ t) (h.same ∙ sym (loose_bytes h.vars h.bounds h.marks)))
           ∙ words_of_line word words clean
           (loose_clean h.vars h.bounds h.marks (omega (arith, small, long.0, line_long line word bytes e, ap length h.same)) (omega (arith, small, long.1, line_long line word bytes e, ap length h.same)) h.vars_number h.bounds_numbers good),
-      inr (loose_words h.vars h.bounds h.marks, record {
-        vars = h.vars;
-        bounds = h.bounds;
-        marks = h.marks;
-        number = h.vars_number;
-        sorted_bounds = bounds_climb h.bounds h.bounds_numbers h.bounds_sorted;
-        sorted_marks = marks_climb h.marks good h.marks_sorted;
-        same = refl;
-      }, refl),
+      inr (
+        loose_words h.vars h.bounds h.marks,
+        record {
+          vars = h.vars;
+          bounds = h.bounds;
+          marks = h.marks;
+          number = h.vars_number;
+          sorted_bounds = bounds_climb h.bounds h.bounds_numbers h.bounds_sorted;
+          sorted_marks = marks_climb h.marks good h.marks_sorted;
+          same = refl;
+        },
+        refl,
+      ),
     )
 
 pub no_loose_line : (line word : List ℕ) → length line < 2 ^ 64 → IsTrue (lacks 32 word) → ((words : List Word) → words_of line ≡ word ∷ words → ⊥) → IsStateLineLoosely word line → ⊥

@@ -1,10 +1,9 @@
 -- Bounds and marks are put into a state one by one.
-use Rattle.std.proofs.Common.{◌≡◌, ◌≢◌, ◌⊎◌, inl, inr, ℕ, zero, suc, ◌+◌, ◌<◌, ◌≤◌, ◌^◌, Bool, true, false, List, [], ◌∷◌, ◌++◌, length, refl, sym, ap, ◌∙◌, subst, arith, cond, IsTrue}
-use Rattle.std.specs.Prelude.{codes}
+use Rattle.std.proofs.Common.{◌≡◌, ◌⊎◌, inl, inr, ℕ, zero, suc, ◌+◌, ◌<◌, ◌≤◌, Bool, true, false, List, [], ◌∷◌, ◌++◌, length, refl, sym, ap, ◌∙◌, subst, arith, cond, IsTrue}
 use Rattle.std.specs.Bool.{IsFalse}
-use Rattle.std.specs.List.{flat_map, Contains}
+use Rattle.std.specs.List.{flat_map}
 use Rattle.std.specs.Fmt.{decimal}
-use Rattle.std.proofs.lemmas.Bool.{cases_lt, cases_eq, cases_Bool}
+use Rattle.std.proofs.lemmas.Bool.{cases_lt, cases_Bool}
 use Rattle.std.proofs.lemmas.List.{append-nil}
 use Rattle.vmv_zone.specs.declared.zone.Zone.{Zone}
 use Rattle.vmv_zone.specs.Zone.{vars_of, bound_of, mark_of, IsMarked, NotBottom, ChangesBound, AddsMark, IsTop}
@@ -15,7 +14,7 @@ use Rattle.std.specs.Int.{w128}
 use Rattle.std.specs.Bool.{OnTrue, OnFalse}
 use Rattle.vmv_proof_words.specs.Taking.{IsNaturalWord, IsBetween}
 use Rattle.vmv_proof_text.specs.States.{Bound, marked_thing, marked_things, marked_variables}
-use Rattle.vmv_proof_line.specs.StateWords.{Climb, IsNext, IsNextMark, place_of, bound_triple, mark_word, AreBounds, AreMarks, AreTaken, LastMarks, counted}
+use Rattle.vmv_proof_line.specs.StateWords.{IsNext, IsNextMark, place_of, bound_triple, mark_word, AreBounds, AreMarks, AreTaken, LastMarks, counted}
 use Rattle.vmv_proof_line.proofs.Climbing.{AreRead, none_read, one_more, no_next, same_number, up_to_last, all_left}
 use Rattle.vmv_proof_line.proofs.StateNaming.{HasBounds, top_has_none, bounds_more, named, up, bounds_few, marks_few, bound_told_once, mark_told_once}
 

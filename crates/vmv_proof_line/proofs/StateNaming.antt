@@ -1,5 +1,5 @@
 -- The bounds that a state gets from those that are read.
-use Rattle.std.proofs.Common.{◌≡◌, ◌≢◌, ◌⊎◌, inl, inr, ℕ, ◌+◌, ◌*◌, ◌<◌, ◌≤◌, ◌^◌, ◌-◌, ℤ, ◌≤ℤ◌, ◌<ℤ◌, List, [], ◌∷◌, ◌++◌, length, refl, sym, ap, ◌∙◌, subst, arith}
+use Rattle.std.proofs.Common.{◌≡◌, ◌≢◌, ◌⊎◌, inl, inr, ℕ, ◌+◌, ◌*◌, ◌<◌, ◌≤◌, ◌^◌, ℤ, ◌≤ℤ◌, ◌<ℤ◌, List, [], ◌∷◌, ◌++◌, length, refl, sym, ◌∙◌, subst, arith}
 use Rattle.std.specs.List.{Contains}
 use Rattle.std.specs.Fmt.{decimal, signed_decimal}
 use Rattle.std.proofs.lemmas.Int.{ints}
@@ -9,12 +9,12 @@ use Rattle.vmv_zone.specs.declared.zone.Zone.{Zone}
 use Rattle.vmv_zone.specs.Bounds.{top_bound}
 use Rattle.vmv_zone.specs.Zone.{vars_of, bound_of, ChangesBound, IsTop}
 use Rattle.vmv_proof_words.specs.Words.{Word}
-use Rattle.vmv_proof_words.specs.Taking.{IsNaturalWord, IsBetween, IsBoundWord}
+use Rattle.vmv_proof_words.specs.Taking.{IsBetween, IsBoundWord}
 use Rattle.vmv_proof_words.proofs.Digits.{natural_once, bound_once}
 use Rattle.vmv_proof_text.specs.States.{Bound}
 use Rattle.vmv_proof_text.specs.Naming.{Precedes, AreSorted, IsBoundOf, IsNaming}
 use Rattle.vmv_proof_line.specs.StateWords.{IsThingWord, IsUnderTop, Climb, IsNext, IsNextMark, place_of, bound_triple, mark_word, AreBounds, AreMarks}
-use Rattle.vmv_proof_line.proofs.Climbing.{IsOnce, same_number, few, cons_cases, has_head, has_tail, climb_has}
+use Rattle.vmv_proof_line.proofs.Climbing.{IsOnce, same_number, few, has_head, has_tail, climb_has}
 
 -- the state has these bounds, and top's where none of them is
 pub record HasBounds (z : Zone) (read : List Bound) : Type 0 where

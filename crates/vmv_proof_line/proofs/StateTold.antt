@@ -1,28 +1,26 @@
 -- A state, from what stands behind the first word of its line.
-use Rattle.std.proofs.Common.{◌≡◌, ◌⊎◌, inl, inr, ℕ, zero, suc, ◌+◌, ◌<◌, ◌≤◌, ◌^◌, Bool, true, false, List, [], ◌∷◌, ◌++◌, get_or, length, refl, sym, ap, ◌∙◌, subst, arith, IsTrue, append_assoc}
+use Rattle.std.proofs.Common.{◌≡◌, ◌⊎◌, inl, inr, ℕ, zero, suc, ◌+◌, ◌<◌, ◌≤◌, ◌^◌, true, false, List, [], ◌∷◌, ◌++◌, get_or, length, refl, sym, ap, ◌∙◌, subst, arith, IsTrue, append_assoc}
 use Rattle.std.specs.Prelude.{Option, Some, None, codes}
-use Rattle.std.specs.Bool.{IsFalse}
 use Rattle.std.specs.List.{flat_map}
 use Rattle.std.specs.Fmt.{decimal, signed_decimal}
 use Rattle.std.proofs.lemmas.Bool.{cases_Bool}
 use Rattle.std.proofs.lemmas.List.{append-nil}
 use Rattle.std.proofs.lemmas.List.Concat.{flat_map-append}
 use Rattle.vmv_zone.specs.declared.zone.Zone.{Zone}
-use Rattle.vmv_zone.specs.Zone.{vars_of, bound_of, mark_of, NotBottom, IsTop}
+use Rattle.vmv_zone.specs.Zone.{vars_of, bound_of, mark_of}
 use Rattle.std.proofs.Common.{pos}
 use Rattle.std.proofs.lemmas.Int.{ints}
 use Rattle.vmv_zone.proofs.PointStates.{point_state}
-use Rattle.vmv_witness.specs.Numbers.{IsNumber}
 use Rattle.vmv_witness.specs.Reading.{lacks}
 use Rattle.vmv_proof_words.specs.Words.{Word, words_of}
 use Rattle.vmv_proof_words.specs.Taking.{Tells}
 use Rattle.vmv_proof_words.proofs.Splitting.{Clean, spaced_words, words_of_line, line_of_words}
 use Rattle.vmv_proof_words.proofs.Digits.{natural_once, natural_number, bound_number}
-use Rattle.vmv_proof_text.specs.States.{Bound, marked_thing, marked_things, marked_variables}
-use Rattle.vmv_proof_text.specs.Naming.{IsBoundOf, IsNaming}
-use Rattle.vmv_proof_text.specs.Lines.{IsTold, IsState, IsStateLine}
+use Rattle.vmv_proof_text.specs.States.{Bound, marked_things, marked_variables}
+use Rattle.vmv_proof_text.specs.Naming.{IsNaming}
+use Rattle.vmv_proof_text.specs.Lines.{IsStateLine}
 use Rattle.vmv_proof_text.specs.Text.{spaced, bound_words, variable_word, told_state, marks_text}
-use Rattle.vmv_proof_line.specs.StateWords.{Climb, IsThingWord, IsBottomWord, IsNext, IsNextMark, place_of, bound_triple, mark_word, AreBounds, AreMarks, AreTaken, NoBounds, LastMarks, NoMarks, counted, told_words, IsToldWords, TellsTold, IsStateWords, TellsState}
+use Rattle.vmv_proof_line.specs.StateWords.{Climb, IsThingWord, IsNext, IsNextMark, place_of, bound_triple, mark_word, AreBounds, AreMarks, AreTaken, NoBounds, LastMarks, NoMarks, counted, told_words, IsToldWords, TellsTold, IsStateWords, TellsState}
 use Rattle.vmv_proof_line.proofs.Fields.{tails, behind, number_clean}
 use Rattle.vmv_proof_line.proofs.Climbing.{last_of, climb_more, last_more, all_left}
 use Rattle.vmv_proof_line.proofs.StateNaming.{naming_climbs, bounds_few, marks_few, bound_told_once, same_thing}
@@ -160,9 +158,17 @@ marks_clean vars marks small c = (
 )
 
 told_clean : (z : Zone) (bounds : List Bound) → vars_of z ≤ 16 → IsNaming z bounds → Clean (codes "vars" ∷ told_words (vars_of z) bounds (marked_variables z))
-told_clean z bounds small n =
-    (refl, (decimal_clean (vars_of z) (omega (arith, small)), (refl, append_clean (counted bound_triple bounds) (marks_words z) (bounds_clean (vars_of z) bounds small (naming_climbs z bounds small n))
-    (refl, marks_clean (vars_of z) (marked_variables z) small (state_marks z)))))
+told_clean z bounds small n = (
+  refl,
+  (
+    decimal_clean (vars_of z) (omega (arith, small)),
+    (
+      refl,
+      append_clean (counted bound_triple bounds) (marks_words z) (bounds_clean (vars_of z) bounds small (naming_climbs z bounds small n))
+          (refl, marks_clean (vars_of z) (marked_variables z) small (state_marks z)),
+    ),
+  ),
+)
 
 pub spaced_list : {A : Type 0} (show : A → List Word) (text : A → List ℕ) → ((x : A) → spaced_words (show x) ≡ text x) → (xs : List A) → spaced_words (flat_map show xs) ≡ flat_map text xs
 spaced_list show text h [] = refl

@@ -1,4 +1,4 @@
-use Rattle.std.proofs.Common.{arith, sym, ◌∙◌, refl, subst}
+use Rattle.std.proofs.Common.{arith, refl, subst}
 use Rattle.std.specs.Fmt.{signed_decimal}
 use Rattle.vmv_proof_line.specs.StateWords.{IsUnderTop}
 use Rattle.vmv_proof_line.proofs.StateNaming.{same_things}
