@@ -8,7 +8,7 @@ use Rattle.std.proofs.lemmas.List.Elements.{Contains-append_cases, Contains-push
 use Rattle.vmv_proof_words.specs.Words.{Word}
 use Rattle.vmv_proof_words.specs.Taking.{IsNaturalWord}
 use Rattle.vmv_proof_words.proofs.Digits.{natural_once}
-use Rattle.vmv_proof_line.specs.StateWords.{Climb}
+use Rattle.vmv_proof_line.specs.StateWords.{Climb, counted}
 use Rattle.vmv_proof_line.proofs.Fields.{tails}
 
 -- the last of them
@@ -95,6 +95,13 @@ same_number old new rest w n m h e small f =
     let both : w ∷ new ≡ decimal m ∷ rest = sym e ∙ f in
     let one : w ≡ decimal m = cc in
     (natural_once m n w (small, one) h, tails w (decimal m) new rest both)
+
+-- their number and their words
+pub whole : {A : Type 0} (show : A → List Word) (xs : List A) (begin : List Word) → begin ≡ counted show xs → begin ≡ counted show xs ++ []
+whole show xs begin e = e ∙ sym (append-nil (counted show xs))
+
+pub front : {A : Type 0} (show : A → List Word) (xs : List A) (begin first words : List Word) (w : Word) (count : ℕ) → w ≡ decimal count → length xs ≡ count → begin ≡ w ∷ first → first ≡ flat_map show xs ++ words → begin ≡ counted show xs ++ words
+front show xs begin first words w count h n e f = e ∙ (ap (λ v. v ∷ first) (h ∙ ap decimal (sym n)) ∙ ap (λ t. decimal (length xs) ∷ t) f)
 
 -- there aren't many, where each is greater than the one before
 pub few : {A : Type 0} (Next : ℕ → A → Type 0) (at : A → ℕ) (top : ℕ) → ((p : ℕ) (x : A) → Next p x → (p < at x) × (at x ≤ top)) → (p : ℕ) (xs : List A) → p ≤ top → Climb Next at p xs → p + length xs ≤ top

@@ -2,14 +2,13 @@
 use Rattle.std.proofs.Common.{◌≡◌, ℕ, ◌<◌, ◌≤◌, ◌^◌, List, [], ◌∷◌, ◌++◌, length, refl, sym, ap, ◌∙◌, subst, arith, length-append}
 use Rattle.std.specs.List.{flat_map}
 use Rattle.std.specs.Fmt.{decimal}
-use Rattle.std.proofs.lemmas.List.{append-nil}
 use Rattle.vmv_proof_words.specs.Words.{Word}
 use Rattle.vmv_proof_words.specs.Taking.{IsNaturalWord}
 use Rattle.vmv_proof_text.specs.Loose.{Digits, SpelledBound}
 use Rattle.vmv_proof_line.specs.StateWords.{Climb, counted}
 use Rattle.vmv_proof_line.specs.LooseWords.{Follows, FollowsMark, NextBound, NextMark, spelled_triple, spelled_mark}
 use Rattle.vmv_proof_line.proofs.Fields.{tails}
-use Rattle.vmv_proof_line.proofs.Climbing.{IsOnce, AreRead, no_next, same_number, all_left}
+use Rattle.vmv_proof_line.proofs.Climbing.{whole, IsOnce, AreRead, no_next, same_number, all_left}
 
 -- another number behind the first
 pub second_number : (old mid : List Word) (u : Word) → old ≡ u ∷ mid → (a : Word) (rest : List Word) → old ≡ a ∷ rest → (u ≡ a) × (mid ≡ rest)
@@ -58,9 +57,6 @@ triple_some b = omega arith
 pub mark_some : (m : Digits) → 1 ≤ length (spelled_mark m)
 mark_some m = omega arith
 
-pub whole : {A : Type 0} (show : A → List Word) (xs : List A) (begin : List Word) → begin ≡ counted show xs → begin ≡ counted show xs ++ []
-whole show xs begin e = e ∙ sym (append-nil (counted show xs))
-
 -- none comes next, where more are to come
 pub stop : {P A : Type 0} (Next : P → A → Type 0) (at : A → P) (show : A → List Word) → IsOnce Next show → ((x : A) → 1 ≤ length (show x)) → (p : P) (begin first words : List Word) (w : Word) (n count : ℕ) (last : P) (read : List A)
     → length begin < 2 ^ 64 → IsNaturalWord 64 count w → begin ≡ w ∷ first → AreRead Next at show p first n words last read → n < count → ((x : A) (rest : List Word) → Next last x → words ≡ show x ++ rest → ⊥)
@@ -68,10 +64,6 @@ pub stop : {P A : Type 0} (Next : P → A → Type 0) (at : A → P) (show : A �
 stop Next at show once some p begin first words w n count last read small h e r less none xs rest c f =
     let s = same_number begin first (flat_map show xs ++ rest) w count (length xs) h e (fewer show some begin small xs rest f) f in
     no_next Next at show once p first words n count last read r none less xs rest c s.0 s.1
-
--- all were read
-pub front : {A : Type 0} (show : A → List Word) (xs : List A) (begin first words : List Word) (w : Word) (count : ℕ) → w ≡ decimal count → length xs ≡ count → begin ≡ w ∷ first → first ≡ flat_map show xs ++ words → begin ≡ counted show xs ++ words
-front show xs begin first words w count h n e f = e ∙ (ap (λ v. v ∷ first) (h ∙ ap decimal (sym n)) ∙ ap (λ t. decimal (length xs) ∷ t) f)
 
 -- words are left behind them
 pub go_on : {P A : Type 0} (Next : P → A → Type 0) (at : A → P) (show : A → List Word) → IsOnce Next show → ((x : A) → 1 ≤ length (show x)) → (p : P) (begin first words : List Word) (w : Word) (n count : ℕ) (last : P) (read : List A)

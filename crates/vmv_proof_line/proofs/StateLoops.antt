@@ -2,7 +2,6 @@
 use Rattle.std.proofs.Common.{◌≡◌, ◌⊎◌, inl, inr, ℕ, zero, suc, ◌+◌, ◌<◌, ◌≤◌, Bool, true, false, List, [], ◌∷◌, ◌++◌, length, refl, sym, ap, ◌∙◌, subst, arith, cond, IsTrue}
 use Rattle.std.specs.Bool.{IsFalse}
 use Rattle.std.specs.List.{flat_map}
-use Rattle.std.specs.Fmt.{decimal}
 use Rattle.std.proofs.lemmas.Bool.{cases_lt, cases_Bool}
 use Rattle.std.proofs.lemmas.List.{append-nil}
 use Rattle.vmv_zone.specs.declared.zone.Zone.{Zone}
@@ -15,7 +14,7 @@ use Rattle.std.specs.Bool.{OnTrue, OnFalse}
 use Rattle.vmv_proof_words.specs.Taking.{IsNaturalWord, IsBetween}
 use Rattle.vmv_proof_text.specs.States.{Bound, marked_thing, marked_things, marked_variables}
 use Rattle.vmv_proof_line.specs.StateWords.{IsNext, IsNextMark, place_of, bound_triple, mark_word, AreBounds, AreMarks, AreTaken, LastMarks, counted}
-use Rattle.vmv_proof_line.proofs.Climbing.{AreRead, none_read, one_more, no_next, same_number, up_to_last, all_left}
+use Rattle.vmv_proof_line.proofs.Climbing.{front, whole, AreRead, none_read, one_more, no_next, same_number, up_to_last, all_left}
 use Rattle.vmv_proof_line.proofs.StateNaming.{HasBounds, top_has_none, bounds_more, named, up, bounds_few, marks_few, bound_told_once, mark_told_once}
 
 -- bounds are read, and the state has them
@@ -51,14 +50,11 @@ bounds_stop before zone begin first words w n count last vars small h e r less v
     no_next (IsNext (vars_of before)) place_of bound_triple (bound_told_once (vars_of before) small) 0 first words n count last r.read r.are
     (λ b more k. none b more (subst (λ i. IsNext i last b) (sym (v ∙ r.vars)) k)) less bounds rest c s.0 s.1
 
-counted_front : {A : Type 0} (show : A → List Word) (xs : List A) (begin first words : List Word) (w : Word) (count : ℕ) → w ≡ decimal count → length xs ≡ count → begin ≡ w ∷ first → first ≡ flat_map show xs ++ words → begin ≡ counted show xs ++ words
-counted_front show xs begin first words w count h n e f = e ∙ (ap (λ v. v ∷ first) (h ∙ ap decimal (sym n)) ∙ ap (λ t. decimal (length xs) ∷ t) f)
-
 pub bounds_done : (before zone : Zone) (begin first words : List Word) (w : Word) (n count last : ℕ) → vars_of before ≤ 16 → IsNaturalWord 64 count w → begin ≡ w ∷ first → BoundsRead before first n words zone last → n ≡ count
     → AreTaken begin words before zone
 bounds_done before zone begin first words w n count last small h e r s = record {
   bounds = r.read;
-  words = counted_front bound_triple r.read begin first words w count h.1 (r.are.count ∙ s) e r.are.place;
+  words = front bound_triple r.read begin first words w count h.1 (r.are.count ∙ s) e r.are.place;
   naming = named zone (vars_of before) r.read small r.are.climb r.has;
   vars = r.vars;
   bottom = r.bottom;
@@ -139,9 +135,6 @@ marks_step before zone next first old new n last vars m r v h e a = record {
   bounds = λ i j. a.bounds i j ∙ r.bounds i j;
 }
 
-whole : {A : Type 0} (show : A → List Word) (xs : List A) (begin : List Word) → begin ≡ counted show xs → begin ≡ counted show xs ++ []
-whole show xs begin e = e ∙ sym (append-nil (counted show xs))
-
 pub marks_stop : (before zone : Zone) (begin first words : List Word) (w : Word) (n count last vars : ℕ) → vars_of before ≤ 16 → IsNaturalWord 64 count w → begin ≡ w ∷ first → MarksRead before first n words zone last → n < count
     → vars ≡ vars_of zone → ((m : ℕ) (rest : List Word) → IsNextMark vars last m → words ≡ mark_word m ++ rest → ⊥) → (marks : List ℕ) → AreMarks (vars_of before) marks → begin ≡ counted mark_word marks → ⊥
 marks_stop before zone begin first words w n count last vars small h e r less v none marks c f =
@@ -155,7 +148,7 @@ marks_done before zone begin first words w n count last h e r s f =
     let all : marked_variables zone ≡ r.read = none_between zone last (vars_of zone) (omega (arith, r.within, r.vars)) r.above ∙ r.marked in
     record {
       same =
-          counted_front mark_word r.read begin first words w count h.1 (r.are.count ∙ s) e r.are.place
+          front mark_word r.read begin first words w count h.1 (r.are.count ∙ s) e r.are.place
           ∙ (ap (λ t. counted mark_word r.read ++ t) f ∙ (append-nil (counted mark_word r.read) ∙ ap (counted mark_word) (sym all)));
       vars = r.vars;
       bottom = r.bottom;

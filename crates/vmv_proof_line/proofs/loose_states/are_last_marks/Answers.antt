@@ -5,8 +5,8 @@ use Rattle.std.proofs.lemmas.Bool.{false≢true}
 use Rattle.std.proofs.lemmas.List.{append-nil}
 use Rattle.vmv_proof_line.specs.StateWords.{counted}
 use Rattle.vmv_proof_line.specs.LooseWords.{NextMark, spelled_mark}
-use Rattle.vmv_proof_line.proofs.Climbing.{one_more}
-use Rattle.vmv_proof_line.proofs.LooseLoops.{mark_once, mark_some, fewer, stop, front, go_on, whole}
+use Rattle.vmv_proof_line.proofs.Climbing.{one_more, front, whole}
+use Rattle.vmv_proof_line.proofs.LooseLoops.{mark_once, mark_some, fewer, stop, go_on}
 use Rattle.vmv_proof_line.proofs.loose_states.are_last_marks.Goals as goal
 
 pub returns-in_default : goal.returns-in_default

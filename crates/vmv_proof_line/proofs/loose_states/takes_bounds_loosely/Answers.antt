@@ -3,8 +3,8 @@ use Rattle.std.specs.List.{flat_map}
 use Rattle.std.specs.Fmt.{decimal}
 use Rattle.vmv_proof_text.specs.Loose.{SpelledBound}
 use Rattle.vmv_proof_line.specs.LooseWords.{NextBound, things_of, spelled_triple}
-use Rattle.vmv_proof_line.proofs.Climbing.{one_more}
-use Rattle.vmv_proof_line.proofs.LooseLoops.{triple_once, triple_some, fewer, stop, front}
+use Rattle.vmv_proof_line.proofs.Climbing.{one_more, front}
+use Rattle.vmv_proof_line.proofs.LooseLoops.{triple_once, triple_some, fewer, stop}
 use Rattle.vmv_proof_line.proofs.loose_states.takes_bounds_loosely.Goals as goal
 
 pub returns-in_default-clause-no : goal.returns-in_default-clause-no
