@@ -199,6 +199,7 @@ pub(crate) fn is_state_loosely(line: &[u8], word: &[u8]) -> bool
     requires { IsTrue (lacks 32 word.now) }
     ensures { IsTrue result ↔ IsStateLineLoosely word.now line.now }
 {
+    // A line that tells more bounds or marks than 64 bits count would be longer than any.
     let length = line.len();
     prove!(length <= usize::MAX);
     let Some(mut words) = Words::behind(line, word) else {
