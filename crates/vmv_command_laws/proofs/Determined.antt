@@ -29,6 +29,13 @@ use Rattle.vmv_report.specs.Baselines.{Based, IsBaseline}
 use Rattle.vmv_report.specs.Reports.{IsReport}
 use Rattle.vmv_proof.specs.declared.proof.Proof.{Proof}
 use Rattle.vmv_review_proof.specs.Proofs.{IsProofOf}
+use Rattle.vmv_proof_text.specs.Faults.{IsProofText}
+use Rattle.vmv_proof_read.specs.declared.fault.ProofFault.{ProofFault}
+use Rattle.vmv_proof_read.specs.declared.fault.ProofFault.TheVariants as proof_fault
+use Rattle.vmv_proof_read.specs.Why.{IsWhy as IsProofWhy}
+use Rattle.vmv_proof_check.specs.declared.claims.Claims.{Claims}
+use Rattle.vmv_proof_check.specs.declared.claims.ProofRefused.{ProofRefused}
+use Rattle.vmv_proof_check_laws.specs.Answers.{IsAnswer}
 
 -- the texts of programs
 pub record OfTexts : Type 0 where
@@ -52,9 +59,17 @@ pub record OfReviews : Type 0 where
   pub reports : (base revision : Resolution) (one other : Report) → IsResolution base → IsReport base revision one → IsReport base revision other → one ≡ other
   pub proofs : (base revision : Resolution) (one other : Proof) → IsResolution base → IsResolution revision → IsProofOf base revision one → IsProofOf base revision other → one ≡ other
 
+-- the texts of proofs, and their check
+pub record OfProofs : Type 0 where
+  pub read : (text : List ℕ) (one other : Proof) → IsProofText text one → IsProofText text other → one ≡ other
+  pub faults : (text : List ℕ) (one other : ProofFault) → IsProofWhy text one → IsProofWhy text other → one ≢ proof_fault.Memory → other ≢ proof_fault.Memory → one ≡ other
+  pub no_fault : (text : List ℕ) (proof : Proof) (why : ProofFault) → length text ≤ 67108864 → IsProofText text proof → IsProofWhy text why → why ≡ proof_fault.Memory
+  pub answers : (base revision : Resolution) (proof : Proof) (one other : Result Claims ProofRefused) → IsResolution base → IsResolution revision → IsAnswer base revision proof one → IsAnswer base revision proof other → one ≡ other
+
 -- all of them, and words
 pub record AreOne : Type 0 where
   pub asked : (words : List Word) (one other : Request) → Asks words one → Asks words other → one ≡ other
   pub of_texts : OfTexts
   pub of_witnesses : OfWitnesses
   pub of_reviews : OfReviews
+  pub of_proofs : OfProofs

@@ -2,5 +2,6 @@ pub mod Determined
 pub mod Files
 pub mod Replaying
 pub mod Reviewing
+pub mod Rechecking
 pub mod Outputs
 pub mod Words

@@ -5,11 +5,13 @@ use Rattle.vmv_command.specs.Faults.{OnProgram}
 use Rattle.vmv_command.specs.Reviews.{ReviewsPrograms}
 use Rattle.vmv_command.specs.Baselines.{BaselinesProgram}
 use Rattle.vmv_command.specs.Replays.{ReplaysTexts}
-use Rattle.vmv_command.specs.Command.{text_most, usage, OnFile, ReviewsTexts, Does, Outputs}
+use Rattle.vmv_command.specs.Rechecks.{RechecksTexts}
+use Rattle.vmv_command.specs.Command.{text_most, proof_most, usage, OnFile, ReviewsTexts, Does, Outputs}
 use Rattle.vmv_command_laws.specs.Alike.{TellsTexts, TellsAsked, by_workers, AskAlike}
 use Rattle.vmv_command_laws.proofs.Determined.{AreOne}
 use Rattle.vmv_command_laws.proofs.Files.{IsOne, line_once, file_once, program_once}
 use Rattle.vmv_command_laws.proofs.Replaying.{texts_replayed_once}
+use Rattle.vmv_command_laws.proofs.Rechecking.{texts_rechecked_once}
 use Rattle.vmv_command_laws.proofs.Reviewing.{programs_reviewed_once, base_found_once}
 
 module _ (laws : AreOne) where
@@ -25,7 +27,11 @@ module _ (laws : AreOne) where
   does_once told (baseline base count) b =
       file_once told base (codes "base") text_most (λ x. OnProgram (codes "base") x BaselinesProgram) b.0 b.1
       (λ short. program_once laws.of_texts (codes "base") b.0 BaselinesProgram short (λ B source. base_found_once laws.of_reviews B))
-  does_once told (recheck base revision proof) tells = line_once usage 9
+  does_once told (recheck base revision proof) (b, r, f) =
+      file_once told base (codes "base") text_most (λ x. OnFile told revision (codes "revision") text_most (λ y. OnFile told proof (codes "proof") proof_most (RechecksTexts x y))) b.0 b.1
+      (λ short. file_once told revision (codes "revision") text_most (λ y. OnFile told proof (codes "proof") proof_most (RechecksTexts b.0 y)) r.0 r.1
+      (λ short'. file_once told proof (codes "proof") proof_most (RechecksTexts b.0 r.0) f.0 f.1
+      (λ short''. texts_rechecked_once laws.of_proofs laws.of_reviews laws.of_texts b.0 r.0 f.0 short short' short'')))
   does_once told (replay revision witness) (r, w) =
       file_once told revision (codes "revision") text_most (λ x. OnFile told witness (codes "witness") text_most (ReplaysTexts x)) r.0 r.1
       (λ short. file_once told witness (codes "witness") text_most (ReplaysTexts r.0) w.0 w.1 (λ short'. texts_replayed_once laws.of_witnesses laws.of_texts r.0 w.0 short short'))

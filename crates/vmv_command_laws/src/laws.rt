@@ -3,7 +3,9 @@ ghost use Rattle.vmv_words.specs.Words.{Word};
 ghost use Rattle.vmv_command.specs.Command.{Outputs};
 ghost use Rattle.vmv_command_laws.specs.Alike.{TellsAsked, AskAlike, NameAnotherNumber};
 
+use vmv_proof_check_laws::proofs_have_one_answer;
 use vmv_proof_laws::proofs_are_unique;
+use vmv_proof_read::{a_text_departs_once, a_text_is_of_one_proof};
 use vmv_report_laws::{baselines_are_unique, one_thing_is_necessary, reports_are_unique};
 use vmv_run::one_finding;
 use vmv_snapshot_laws::resolutions_are_unique;
@@ -34,6 +36,9 @@ pub fn outputs_are_one()
     baselines_are_unique();
     reports_are_unique();
     proofs_are_unique();
+    a_text_is_of_one_proof();
+    a_text_departs_once();
+    proofs_have_one_answer();
 }
 
 /// Words that ask for the same by other numbers of workers have the same output and the same status.

@@ -1,3 +1,4 @@
+use Rattle.vmv_command_laws.proofs.Rechecking.{no_proof_fault}
 use Rattle.vmv_command_laws.proofs.Outputs.{outputs_once}
 use Rattle.vmv_command_laws.proofs.laws.outputs_are_one.Goals as goal
 
@@ -20,5 +21,11 @@ returns c =
         baselines = c.baselines_are_unique.ensures;
         reports = c.reports_are_unique.ensures;
         proofs = c.proofs_are_unique.ensures;
+      };
+      of_proofs = record {
+        read = c.a_text_is_of_one_proof.ensures;
+        faults = c.a_text_departs_once.ensures.once;
+        no_fault = no_proof_fault c.a_text_departs_once.ensures.syntax c.a_text_departs_once.ensures.range;
+        answers = c.proofs_have_one_answer.ensures;
       };
     })
