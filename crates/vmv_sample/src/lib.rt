@@ -1,0 +1,8 @@
+//! The programs of a sample: a base with many entries, and a revision of it that asks for more of its outside name.
+#![tactic(auto)]
+
+mod blocks;
+mod names;
+mod program;
+
+pub use program::sample_text;
