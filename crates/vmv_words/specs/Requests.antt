@@ -1,7 +1,7 @@
 -- What the code's own values are, in the words of the definitions.
 use Rattle.std.specs.Prelude.{◌≡◌, List, map}
 use Rattle.vmv_words.specs.declared.request.Request.{Request}
-use Rattle.vmv_words.specs.declared.request.Request.TheVariants.{Review, Baseline, Recheck, Replay}
+use Rattle.vmv_words.specs.declared.request.Request.TheVariants.{Review, Baseline, Recheck, Replay, Sample}
 use Rattle.vmv_words.specs.declared.given.Given.{Given}
 use Rattle.vmv_words.specs.Words.{Word, Gives}
 use Rattle.vmv_words.specs.Words as words
@@ -11,6 +11,7 @@ request_of (Review base revision count proved) = words.review base.now revision.
 request_of (Baseline base count) = words.baseline base.now count
 request_of (Recheck base revision proved) = words.recheck base.now revision.now proved.now
 request_of (Replay revision witness) = words.replay revision.now witness.now
+request_of (Sample number count) = words.sample number count
 
 abbrev pub given_of : Given → words.Given
 given_of g = record { names = map (λ name. name.now) g.names.items; workers = g.workers; proof = g.proof }

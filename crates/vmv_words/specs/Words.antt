@@ -1,5 +1,5 @@
 -- What the words behind the program's name ask for.
-use Rattle.std.specs.Prelude.{◌≡◌, ◌≢◌, ℕ, ◌≤◌, Bool, true, false, Option, Some, None, List, [], ◌∷◌, ◌++◌, codes}
+use Rattle.std.specs.Prelude.{◌≡◌, ◌≢◌, ℕ, ◌≤◌, ◌<◌, ◌^◌, Bool, true, false, Option, Some, None, List, [], ◌∷◌, ◌++◌, codes}
 use Rattle.std.specs.Str.Parse.{IsNumeral, digits_value}
 
 abbrev pub Word : Type 0
@@ -24,6 +24,12 @@ pub record IsCount (word : Word) (n : ℕ) : Type 0 where
   pub from : 1 ≤ n
   pub to : n ≤ 64
 
+-- the word is this number in decimal digits, which fits 64 bits
+pub record IsNumber (word : Word) (n : ℕ) : Type 0 where
+  pub numeral : IsNumeral 10 word
+  pub value : digits_value 10 word ≡ n
+  pub fits : n < 2 ^ 64
+
 -- Options stand anywhere, each at most once; behind `--` there are none.
 pub data Gives : List Word → Given → Type 0 where
   nothing : Gives [] (record { names = []; workers = None; proof = false })
@@ -46,6 +52,7 @@ pub data Request : Type 0 where
   baseline : (base : Word) (workers : ℕ) → Request
   recheck : (base revision proof : Word) → Request
   replay : (revision witness : Word) → Request
+  sample : (number workers : ℕ) → Request
 
 -- the word of a command, with what stands behind it, is this request
 abbrev pub IsFor : Word → Given → Request → Type 0
@@ -55,6 +62,8 @@ IsFor command g (baseline base count) = (command ≡ codes "baseline") × (g.nam
 IsFor command g (recheck base revision proved) =
     (command ≡ codes "recheck") × (g.names ≡ base ∷ revision ∷ proved ∷ []) × (g.workers ≡ None) × (g.proof ≡ false)
 IsFor command g (replay revision witness) = (command ≡ codes "replay") × (g.names ≡ revision ∷ witness ∷ []) × (g.workers ≡ None) × (g.proof ≡ false)
+IsFor command g (sample number count) =
+    (word : Word) × (command ≡ codes "sample") × (g.names ≡ word ∷ []) × IsNumber word number × IsWorkers g.workers count × (g.proof ≡ false)
 
 -- the words ask for this
 abbrev pub Asks : List Word → Request → Type 0

@@ -1,5 +1,5 @@
 ghost use Rattle.std.specs.Prelude.{ℕ, MatchOption};
-ghost use Rattle.vmv_words.specs.Words.{IsCount};
+ghost use Rattle.vmv_words.specs.Words.{IsCount, IsNumber};
 
 /// The number of workers that a word has in decimal digits, from 1 to 64.
 pub(crate) fn count(word: &str) -> Option<u32>
@@ -15,4 +15,14 @@ pub(crate) fn count(word: &str) -> Option<u32>
         return None;
     }
     Some(number)
+}
+
+/// The number that a word has in decimal digits, where it fits 64 bits.
+pub(crate) fn number(word: &str) -> Option<u64>
+    ensures { MatchOption result ((n : ℕ) → IsNumber word.now n → ⊥) (IsNumber word.now) }
+{
+    if word.as_bytes().starts_with(b"+") {
+        return None;
+    }
+    word.parse::<u64>().ok()
 }

@@ -4,6 +4,7 @@ ghost use Rattle.vmv_words.specs.Words.{Asks, AsksNothing};
 ghost use Rattle.vmv_words.specs.Words.{IsFor};
 ghost use Rattle.vmv_words.specs.Requests.{request_of, given_of, IsForNone};
 
+use crate::count::number;
 use crate::given::{Given, read_given};
 use std::alloc::{AllocError, Global};
 
@@ -32,6 +33,11 @@ pub enum Request<'a> {
     Replay {
         revision: &'a str,
         witness: &'a str,
+    },
+    /// The review of the sample of this number by so many workers.
+    Sample {
+        number: u64,
+        workers: u32,
     },
 }
 
@@ -106,6 +112,22 @@ fn replay<'a>(given: &Given<'a>) -> Option<Request<'a>>
     })
 }
 
+// A sample takes its number in place of a name, and the number of workers.
+fn sample<'a>(given: &Given<'a>) -> Option<Request<'a>>
+    ensures { MatchOption result (IsForNone (codes "sample") (given_of given.now)) (λ request. IsFor (codes "sample") (given_of given.now) (request_of request)) }
+{
+    let [word] = given.names.as_slice() else {
+        return None;
+    };
+    let (Some(number), false) = (number(*word), given.proof) else {
+        return None;
+    };
+    Some(Request::Sample {
+        number,
+        workers: given.workers.unwrap_or(1),
+    })
+}
+
 // What the word of a command is for, with what stands behind it.
 fn request_for<'a>(command: &str, given: &Given<'a>) -> Option<Request<'a>>
     ensures { MatchOption result (IsForNone command.now (given_of given.now)) (λ request. IsFor command.now (given_of given.now) (request_of request)) }
@@ -115,6 +137,7 @@ fn request_for<'a>(command: &str, given: &Given<'a>) -> Option<Request<'a>>
         "baseline" => baseline(given),
         "recheck" => recheck(given),
         "replay" => replay(given),
+        "sample" => sample(given),
         _ => None,
     }
 }
