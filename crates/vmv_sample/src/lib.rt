@@ -2,7 +2,9 @@
 #![tactic(auto)]
 
 mod blocks;
+mod laws;
 mod names;
 mod program;
 
+pub use laws::sample_texts_are_short;
 pub use program::sample_text;
