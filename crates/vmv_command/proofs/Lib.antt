@@ -4,3 +4,4 @@ pub mod Fitting
 pub mod Regression
 pub mod Reviewing
 pub mod Rechecking
+pub mod Sampling

@@ -5,7 +5,7 @@ use Rattle.vmv_tree.specs.Tree.{Item}
 use Rattle.vmv_tree.specs.Safe.{RelCorrect}
 use Rattle.vmv_text.specs.Grammar.{IsText}
 use Rattle.vmv_edge.specs.Outside.{IsAsTold}
-use Rattle.vmv_words.specs.Words.{Word, Request, review, baseline, recheck, replay, Asks, AsksNothing}
+use Rattle.vmv_words.specs.Words.{Word, Request, review, baseline, recheck, replay, sample, Asks, AsksNothing}
 use Rattle.vmv_report.specs.Texts.{line}
 use Rattle.vmv_command.specs.Lines.{IsLine, SaysTooLong}
 use Rattle.vmv_command.specs.Reviews.{ReviewsPrograms}
@@ -13,6 +13,7 @@ use Rattle.vmv_command.specs.Baselines.{BaselinesProgram}
 use Rattle.vmv_command.specs.Faults.{OnProgram}
 use Rattle.vmv_command.specs.Replays.{ReplaysTexts}
 use Rattle.vmv_command.specs.Rechecks.{RechecksTexts}
+use Rattle.vmv_command.specs.Samples.{Samples}
 
 -- the most bytes that a text may have, if it isn't a proof's
 abbrev pub text_most : ℕ
@@ -47,6 +48,7 @@ Does told (recheck base revision proof) printed status =
     printed status
 Does told (replay revision witness) printed status =
     OnFile told revision (codes "revision") text_most (λ r. OnFile told witness (codes "witness") text_most (ReplaysTexts r)) printed status
+Does told (sample number count) printed status = Samples number printed status
 
 -- the output of the words over what a shelf tells: the usage line, or that of what they ask for
 abbrev pub Outputs : List Word → (Word → Option (List ℕ)) → List ℕ → ℕ → Type 0

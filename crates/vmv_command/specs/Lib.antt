@@ -5,5 +5,6 @@ pub mod Work
 pub mod Baselines
 pub mod Replays
 pub mod Rechecks
+pub mod Samples
 pub mod Command
 pub mod Regressions

@@ -11,6 +11,7 @@ use crate::output::{Output, Stop, print};
 use crate::rechecks::recheck_files;
 use crate::replays::replay_files;
 use crate::review::review_files;
+use crate::samples::sample_output;
 use std::alloc::Global;
 use std::thread::Threads;
 use vmv_edge::{Door, Shelf, Sink, Vault};
@@ -41,13 +42,14 @@ fn output_of<F: Shelf>(alloc: Global, shelf: &mut F, request: &Request) -> Resul
             proof,
         } => recheck_files(alloc, shelf, *base, *revision, *proof),
         Request::Replay { revision, witness } => replay_files(alloc, shelf, *revision, *witness),
+        Request::Sample { number, .. } => Ok(sample_output(alloc, *number)?),
     }
 }
 
 /// Does the command that the words say, and gives its status: for a review 0 where the revision is relatively correct to the
 /// base, 1 where there are alarms, 2 where there is a regression, and 3 where the base is vacuous; for the check of a proof 0
 /// where it is accepted and no row is left, and 1 where rows are left or it is refused; for a replay 0 where the run fails at
-/// the named site of the witness, and 1 where it doesn't or the witness doesn't fit; 5 for a text that meets a limit, 4 for
+/// the named site of the witness, and 1 where it doesn't or the witness doesn't fit; for a sample 0; 5 for a text that meets a limit, 4 for
 /// one that has another fault, 6 where a read failed, 7 where a write failed, 8 where memory ran out, 9 for other words.
 ///
 /// All texts are read first, a proof's of at most 67,108,864 bytes and each other of at most 1,048,576; then the work is done;

@@ -9,6 +9,8 @@ mod output;
 mod rechecks;
 mod replays;
 mod review;
+mod samples;
+mod summary;
 
 pub use command::run;
 
