@@ -36,6 +36,8 @@ use Rattle.vmv_proof_read.specs.Why.{IsWhy as IsProofWhy}
 use Rattle.vmv_proof_check.specs.declared.claims.Claims.{Claims}
 use Rattle.vmv_proof_check.specs.declared.claims.ProofRefused.{ProofRefused}
 use Rattle.vmv_proof_check_laws.specs.Answers.{IsAnswer}
+use Rattle.vmv_print.specs.Canonical.{canonical}
+use Rattle.vmv_sample.specs.Sample.{sample_program}
 
 -- the texts of programs
 pub record OfTexts : Type 0 where
@@ -73,3 +75,4 @@ pub record AreOne : Type 0 where
   pub of_witnesses : OfWitnesses
   pub of_reviews : OfReviews
   pub of_proofs : OfProofs
+  pub of_samples : (more : ℕ) → more ≤ 2 → length (canonical (sample_program more)) ≤ 1048576

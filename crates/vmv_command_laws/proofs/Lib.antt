@@ -3,5 +3,6 @@ pub mod Files
 pub mod Replaying
 pub mod Reviewing
 pub mod Rechecking
+pub mod Sampling
 pub mod Outputs
 pub mod Words

@@ -1,6 +1,6 @@
 -- Words and told texts have one output.
 use Rattle.std.proofs.Common.{◌≡◌, inl, inr, ℕ, ◌≤◌, Bool, Option, List, length, codes, subst}
-use Rattle.vmv_words.specs.Words.{Word, Request, review, baseline, recheck, replay}
+use Rattle.vmv_words.specs.Words.{Word, Request, review, baseline, recheck, replay, sample}
 use Rattle.vmv_command.specs.Faults.{OnProgram}
 use Rattle.vmv_command.specs.Reviews.{ReviewsPrograms}
 use Rattle.vmv_command.specs.Baselines.{BaselinesProgram}
@@ -12,6 +12,7 @@ use Rattle.vmv_command_laws.proofs.Determined.{AreOne}
 use Rattle.vmv_command_laws.proofs.Files.{IsOne, line_once, file_once, program_once}
 use Rattle.vmv_command_laws.proofs.Replaying.{texts_replayed_once}
 use Rattle.vmv_command_laws.proofs.Rechecking.{texts_rechecked_once}
+use Rattle.vmv_command_laws.proofs.Sampling.{sampled_once}
 use Rattle.vmv_command_laws.proofs.Reviewing.{programs_reviewed_once, base_found_once}
 
 module _ (laws : AreOne) where
@@ -35,6 +36,7 @@ module _ (laws : AreOne) where
   does_once told (replay revision witness) (r, w) =
       file_once told revision (codes "revision") text_most (λ x. OnFile told witness (codes "witness") text_most (ReplaysTexts x)) r.0 r.1
       (λ short. file_once told witness (codes "witness") text_most (ReplaysTexts r.0) w.0 w.1 (λ short'. texts_replayed_once laws.of_witnesses laws.of_texts r.0 w.0 short short'))
+  does_once told (sample number count) tells = sampled_once laws.of_reviews laws.of_texts laws.of_samples number
 
   pub outputs_once : (words : List Word) (told : Word → Option (List ℕ)) (p q : List ℕ) (s t : ℕ) → TellsAsked told words → Outputs words told p s → Outputs words told q t → (p ≡ q) × (s ≡ t)
   outputs_once words told p q s t tells (inl (nothing, says)) (inl (nothing', says')) = line_once usage 9 p q s t says says'
@@ -50,6 +52,7 @@ does_by told n (review base revision count proved) p s h = h
 does_by told n (baseline base count) p s h = h
 does_by told n (recheck base revision proof) p s h = h
 does_by told n (replay revision witness) p s h = h
+does_by told n (sample number count) p s h = h
 
 outputs_alike : (words others : List Word) (told : Word → Option (List ℕ)) (p : List ℕ) (s : ℕ) → AskAlike words others → Outputs words told p s → Outputs others told p s
 outputs_alike words others told p s alike (inl (nothing, says)) = inl (λ request asks. let back = alike.1 request asks in nothing (by_workers back.0 request) back.1, says)

@@ -1,5 +1,5 @@
 -- The check of three texts has one output.
-use Rattle.std.proofs.Common.{◌≡◌, inl, inr, ℕ, ◌≤◌, List, ◌++◌, length, codes, refl, sym, ap, subst, arith, ◌∙◌}
+use Rattle.std.proofs.Common.{◌≡◌, inl, inr, ℕ, ◌≤◌, List, ◌++◌, length, codes, refl, sym, subst, arith, ◌∙◌}
 use Rattle.std.specs.Prelude.{Result, Ok, Err}
 use Rattle.vmv_tree.specs.Tree.{Item}
 use Rattle.vmv_snapshot.specs.Resolution.{Resolution, IsResolution}

@@ -5,7 +5,7 @@ use Rattle.std.specs.Str.{bytes_eq}
 use Rattle.std.specs.Str.Parse.{IsNumeral}
 use Rattle.std.proofs.lemmas.Slice.Eq.{bytes_eq-Decides}
 use Rattle.std.proofs.lemmas.Str.Parse.{digit_from_value}
-use Rattle.vmv_words.specs.Words.{Word, Given, IsPlain, empty, hyphen, other, IsCount, Gives, nothing, a_name, a_count, a_joined_count, a_flag, an_end, Request, review, baseline, recheck, replay, IsFor}
+use Rattle.vmv_words.specs.Words.{Word, Given, IsPlain, empty, hyphen, other, IsCount, Gives, nothing, a_name, a_count, a_joined_count, a_flag, an_end, Request, review, baseline, recheck, replay, sample, IsFor}
 use Rattle.vmv_command_laws.specs.Alike.{by_workers, AskForIt, AskAlike, NameAnotherNumber}
 
 -- words that differ
@@ -90,6 +90,7 @@ module _ (after : List Word) (n m : Word) (j : ℕ) (count : IsCount m j) where
   for_it command g k (baseline base count) named h = (h.0, h.1, refl, h.3)
   for_it command g k (recheck base revision proof) named h = let none = h.2 in absurd (cc)
   for_it command g k (replay revision witness) named h = let none = h.2 in absurd (cc)
+  for_it command g k (sample number count) named (word, is, names, is_number, workers, off) = (word, is, names, is_number, refl, off)
 
   ask_for_it : (command : Word) (before : List Word) (words others : List Word) → (Contains before (codes "--") → ⊥) → words ≡ command ∷ from before → others ≡ command ∷ to before → AskForIt words others
   ask_for_it command before words others unended e f request (command', rest, g, are, gives, is_for) =

@@ -8,6 +8,7 @@ use vmv_proof_laws::proofs_are_unique;
 use vmv_proof_read::{a_text_departs_once, a_text_is_of_one_proof};
 use vmv_report_laws::{baselines_are_unique, one_thing_is_necessary, reports_are_unique};
 use vmv_run::one_finding;
+use vmv_sample::sample_texts_are_short;
 use vmv_snapshot_laws::resolutions_are_unique;
 use vmv_source::valid_texts_have_no_fault;
 use vmv_source_laws::a_text_has_one_fault;
@@ -39,6 +40,7 @@ pub fn outputs_are_one()
     a_text_is_of_one_proof();
     a_text_departs_once();
     proofs_have_one_answer();
+    sample_texts_are_short();
 }
 
 /// Words that ask for the same by other numbers of workers have the same output and the same status.

@@ -28,4 +28,5 @@ returns c =
         no_fault = no_proof_fault c.a_text_departs_once.ensures.syntax c.a_text_departs_once.ensures.range;
         answers = c.proofs_have_one_answer.ensures;
       };
+      of_samples = c.sample_texts_are_short.ensures;
     })
