@@ -5,7 +5,9 @@ use std::env;
 use std::io::{Error, ErrorKind};
 use std::process::ExitCode;
 use vmv_command::run;
-use vmv_edge::{FaultlessDoor, FaultlessVault, FileShelf, StreamSink};
+use vmv_door::FaultlessDoor;
+use vmv_edge::{FileShelf, StreamSink};
+use vmv_vault::FaultlessVault;
 
 // The words behind the program's name, or none where one of them isn't UTF-8.
 fn given_words(rt: &HostRuntime) -> Result<Vec<String>, Error> {
@@ -34,7 +36,7 @@ fn main(rt: HostRuntime) -> ExitCode {
         &words,
         &mut shelf,
         &mut out,
-        &mut FaultlessVault,
+        &mut FaultlessVault::new(),
         &mut FaultlessDoor,
     );
     ExitCode::from(status)

@@ -14,9 +14,11 @@ use crate::review::review_files;
 use crate::samples::sample_output;
 use std::alloc::Global;
 use std::thread::Threads;
-use vmv_edge::{Door, Shelf, Sink, Vault};
+use vmv_door::Door;
+use vmv_edge::{Shelf, Sink};
 use vmv_proof_check::accepted_proofs_are_sound;
 use vmv_report::{correct_verdicts_hold, only_correct_reports_say_so, regressing_reports_show_it};
+use vmv_vault::Vault;
 use vmv_words::{Request, read_words, words_ask_for_one_thing};
 
 const USAGE: &[u8] =

@@ -10,7 +10,8 @@ use std::process::ExitCode;
 use trials::{Commands, Runner};
 use vmv_cases::run_cases;
 use vmv_command::run;
-use vmv_edge::{FaultlessDoor, FaultlessVault};
+use vmv_door::FaultlessDoor;
+use vmv_vault::FaultlessVault;
 
 fn main(rt: HostRuntime) -> ExitCode {
     let alloc = rt.alloc();
@@ -25,7 +26,7 @@ fn main(rt: HostRuntime) -> ExitCode {
             &words,
             &mut shelf,
             &mut out,
-            &mut FaultlessVault,
+            &mut FaultlessVault::new(),
             &mut FaultlessDoor,
         );
         (out, status)

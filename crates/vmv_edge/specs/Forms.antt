@@ -7,8 +7,6 @@ use Rattle.vmv_edge.specs.declared.memory_sink.MemorySink.{MemorySink}
 use Rattle.vmv_edge.specs.declared.memory_sink.FaultlessSink.{FaultlessSink}
 use Rattle.vmv_edge.specs.declared.memory_link.MemoryLink.{MemoryLink}
 use Rattle.vmv_edge.specs.declared.memory_link.FaultlessLink.{FaultlessLink}
-use Rattle.vmv_edge.specs.declared.vault.MemoryVault.{MemoryVault}
-use Rattle.vmv_edge.specs.declared.door.MemoryDoor.{MemoryDoor}
 use Rattle.vmv_edge.specs.Calls.{is_to_fail}
 use Rattle.vmv_edge.specs.Held.{text_under}
 
@@ -57,12 +55,6 @@ shown sink = if sink.full then None else Some sink.room.bytes.items
 -- how many bytes a sink that never fails was made for
 abbrev pub whole_size_of : FaultlessSink → ℕ
 whole_size_of sink = sink.room.size
-
-abbrev pub vault_calls : MemoryVault → Calls
-vault_calls vault = vault.calls
-
-abbrev pub door_calls : MemoryDoor → Calls
-door_calls door = door.calls
 
 -- the bytes that a link has still to give
 abbrev pub unread : MemoryLink → List ℕ

@@ -6,7 +6,6 @@
 #![tactic(auto)]
 
 mod calls;
-mod door;
 mod faults;
 mod files;
 mod link;
@@ -19,10 +18,8 @@ mod sink;
 mod stock;
 mod streams;
 mod text;
-mod vault;
 
 pub use calls::Calls;
-pub use door::{Door, FaultlessDoor, MemoryDoor};
 pub use files::FileShelf;
 pub use link::{Link, send_all};
 pub use memory_link::{FaultlessLink, MemoryLink};
@@ -33,4 +30,3 @@ pub use sink::{Failed, Sink, write_all};
 pub use std::alloc::AllocError as Memory;
 pub use streams::StreamSink;
 pub use text::Text;
-pub use vault::{FaultlessVault, MemoryVault, Vault};

@@ -55,6 +55,7 @@ pub fn send_all<L: Link>(link: &mut L, piece: &[u8]) -> Result<(), Failed>
     ensures prefix { OnErr result (AppendedFront (L.written link.old) piece.now (L.written link.new)) }
     ensures failed { OnErr result (Rose (L.fault_count link.old) (L.fault_count link.new)) }
     ensures later { L.fault_count link.old ≤ L.fault_count link.new }
+    ensures kept { L.input link.new ≡ L.input link.old }
 {
     let mut from = 0;
     while from < piece.len() {

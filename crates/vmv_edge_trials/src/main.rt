@@ -56,8 +56,6 @@ fn ask_other(alloc: Global, case: &Case, ask: &[u8], sheet: &mut Sheet) -> bool 
     let word = word(ask, 0);
     if word == b"text".as_slice() {
         small::text(alloc, case.subject(ask), sheet);
-    } else if word == b"vaults".as_slice() {
-        small::vaults(alloc, sheet);
     } else if word == b"links".as_slice() {
         links::links(alloc, case, sheet);
     } else {

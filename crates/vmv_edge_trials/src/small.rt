@@ -1,6 +1,6 @@
 use std::alloc::Global;
 use vmv_cases::Sheet;
-use vmv_edge::{Door, FaultlessDoor, FaultlessVault, MemoryDoor, MemoryVault, Text, Vault};
+use vmv_edge::Text;
 
 /// Writes the bytes of a text, made and given back as a `Vec`.
 fn put_text(text: Text, sheet: &mut Sheet) {
@@ -22,19 +22,4 @@ pub fn text(alloc: Global, bytes: &[u8], sheet: &mut Sheet) {
         sheet.put(b"the same ");
     }
     put_text(copy, sheet);
-}
-
-/// Writes the faults of a vault and of a door.
-fn put_faults<V: Vault, D: Door>(vault: &V, door: &D, sheet: &mut Sheet) {
-    sheet.put(b"faults ");
-    sheet.show(&vault.faults());
-    sheet.put(b" ");
-    sheet.show(&door.faults());
-    sheet.line(b"");
-}
-
-/// `? vaults`: the faults of new vaults and doors.
-pub fn vaults(alloc: Global, sheet: &mut Sheet) {
-    put_faults(&MemoryVault::new(Vec::new(alloc)), &FaultlessDoor, sheet);
-    put_faults(&FaultlessVault, &MemoryDoor::new(Vec::new(alloc)), sheet);
 }

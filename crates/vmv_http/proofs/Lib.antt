@@ -1,4 +1,3 @@
 pub mod Asking
-pub mod Writing
 pub mod Exchanging
 pub mod Determined

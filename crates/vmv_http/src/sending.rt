@@ -1,11 +1,11 @@
-ghost use Rattle.std.specs.Prelude.{◌≡◌, ◌≢◌, IfOk, OnOk, OnErr};
+ghost use Rattle.std.specs.Prelude.{◌≡◌, ◌≢◌, IfOk};
 ghost use Rattle.vmv_edge.specs.Outside.{Rose, Appended, AppendedFront};
 ghost use Rattle.vmv_http.specs.Exchanges.{status_of, text_of};
 ghost use Rattle.vmv_http.specs.Serving.{IfAnswered};
 
 use crate::served::{LinkEnd, Served};
 use std::alloc::{AllocError, Global};
-use vmv_edge::{Failed, Link, Text};
+use vmv_edge::{Link, Text, send_all};
 use vmv_keeper::Reply;
 use vmv_request::{Refusal, refusal_text, reply_status, reply_text};
 
@@ -28,25 +28,6 @@ fn status_of(answer: &Result<Reply, Refusal>) -> u16
     }
 }
 
-/// Writes the whole text, and reads nothing.
-fn write_all<L: Link>(link: &mut L, text: &[u8]) -> Result<(), Failed>
-    ensures written { OnOk result (Appended (L.written link.old) text.now (L.written link.new)) }
-    ensures stands { OnOk result (L.fault_count link.new ≡ L.fault_count link.old) }
-    ensures prefix { OnErr result (AppendedFront (L.written link.old) text.now (L.written link.new)) }
-    ensures failed { OnErr result (Rose (L.fault_count link.old) (L.fault_count link.new)) }
-    ensures kept { L.input link.new ≡ L.input link.old }
-{
-    let mut rest = text;
-    while !rest.is_empty() {
-        let n = link.write(rest)?;
-        if n == 0 {
-            return Err(Failed);
-        }
-        rest = &rest[n..];
-    }
-    Ok(())
-}
-
 /// Writes an answer.
 pub(crate) fn send<L: Link>(alloc: Global, link: &mut L, answer: &Result<Reply, Refusal>) -> Served
     ensures answered { IfAnswered result (λ status. (status ≡ status_of answer.now) × Appended (L.written link.old) (text_of answer.now) (L.written link.new)) }
@@ -62,7 +43,7 @@ pub(crate) fn send<L: Link>(alloc: Global, link: &mut L, answer: &Result<Reply, 
     let Ok(text) = text_of(alloc, answer) else {
         return Served::Memory;
     };
-    match write_all(link, text.bytes()) {
+    match send_all(link, text.bytes()) {
         Ok(()) => Served::Answered { status },
         Err(_) => Served::CutOff {
             why: LinkEnd::WriteFailed,

@@ -13,4 +13,4 @@ loop-from-preserved g c =
     let more = Appended-add _ _ _ c.args.piece.now c.loop-from.from c.in_ok-n.n c.loop-from.invariant.1 c.in_ok-n.ensures.appended in
     let within = within-rest_of c.args.piece.now c.loop-from.from c.in_ok-n.n c.loop-from.invariant.0 c.in_ok-n.ensures.within in
     let moved : 0 < c.in_ok-n.n = omega (arith, c.if-n-eq0.false) in
-    (within, more, c.in_ok-n.ensures.stands (inl moved) ∙ c.loop-from.invariant.2)
+    (within, more, c.in_ok-n.ensures.stands (inl moved) ∙ c.loop-from.invariant.2, c.in_ok-n.ensures.kept ∙ c.loop-from.invariant.3)

@@ -1,8 +1,8 @@
 ghost use Rattle.std.specs.Prelude.{◌≡◌, ℕ};
 ghost use Rattle.vmv_edge.specs.Calls.{AreUnused, failed_calls};
-ghost use Rattle.vmv_edge.specs.Forms.{door_calls};
+ghost use Rattle.vmv_door.specs.Forms.{door_calls};
 
-use crate::calls::Calls;
+use vmv_edge::Calls;
 
 /// What listens for connections.
 pub trait Door {
