@@ -7,8 +7,10 @@ ghost use Rattle.vmv_enough.specs.Enough.{NoneEmpty};
 use crate::puts::put_conds;
 use crate::texts::program_of;
 use std::alloc::Global;
+use std::thread::Threads;
 use vmv_assumption::Assumption;
 use vmv_cases::{Case, Sheet, number, word};
+use vmv_crew::Open;
 use vmv_cond::Cond;
 use vmv_enough::sufficient;
 use vmv_snapshot::Snapshot;
@@ -85,7 +87,12 @@ fn put_sufficient(found: Option<Assumption>, sheet: &mut Sheet) {
 }
 
 /// `? sufficient`: the sufficient conditions of the text `program`, from the necessary ones that the text `given` writes.
-pub fn sufficient_of(alloc: Global, case: &Case, sheet: &mut Sheet) {
+pub fn sufficient_of<R: Threads + Sync>(
+    rt: &R,
+    alloc: Global,
+    case: &Case,
+    sheet: &mut Sheet,
+) {
     let Some(base) = program_of(alloc, case, sheet) else {
         return;
     };
@@ -96,7 +103,7 @@ pub fn sufficient_of(alloc: Global, case: &Case, sheet: &mut Sheet) {
         sheet.refuse();
         return;
     }
-    match sufficient(alloc, &base, &needed) {
+    match sufficient(rt, alloc, &base, &needed, 1, &Open) {
         Ok(found) => put_sufficient(found, sheet),
         Err(_) => sheet.fall_short(),
     }

@@ -11,9 +11,14 @@ mod texts;
 
 use std::alloc::Global;
 use std::process::ExitCode;
+use std::thread::Threads;
 use vmv_cases::{Case, Sheet, Trial, run_cases, word};
+use vmv_crew::Shared;
 
-struct Trials;
+/// What the trials work with.
+struct Trials<'a, R> {
+    rt: &'a R,
+}
 
 /// Answers an ask about an entry's statements. Answers whether it is one.
 fn ask_statements(alloc: Global, case: &Case, ask: &[u8], sheet: &mut Sheet) -> bool {
@@ -31,33 +36,40 @@ fn ask_statements(alloc: Global, case: &Case, ask: &[u8], sheet: &mut Sheet) -> 
 }
 
 /// Answers an ask about a program. Answers whether it is one.
-fn ask_program(alloc: Global, case: &Case, ask: &[u8], sheet: &mut Sheet) -> bool {
+fn ask_program<R: Threads + Sync>(
+    rt: &R,
+    alloc: Global,
+    case: &Case,
+    ask: &[u8],
+    sheet: &mut Sheet,
+) -> bool {
     let word = word(ask, 0);
     if word == b"ends".as_slice() {
         entries::ends_of(alloc, case, sheet);
     } else if word == b"necessary".as_slice() {
-        needs::necessary_of(alloc, case, sheet);
+        needs::necessary_of(rt, alloc, case, sheet);
     } else if word == b"sufficient".as_slice() {
-        given::sufficient_of(alloc, case, sheet);
+        given::sufficient_of(rt, alloc, case, sheet);
     } else if word == b"probes".as_slice() {
-        probes::probes_of(alloc, case, ask, sheet);
+        probes::probes_of(rt, alloc, case, ask, sheet);
     } else {
         return false;
     }
     true
 }
 
-impl Trial for Trials {
+impl<'a, R: Threads + Shared + Sync> Trial for Trials<'a, R> {
     fn answer(&self, alloc: Global, case: &Case, ask: &[u8], sheet: &mut Sheet) {
         if ask_statements(alloc, case, ask, sheet) {
             return;
         }
-        if !ask_program(alloc, case, ask, sheet) {
+        self.rt.shared();
+        if !ask_program(self.rt, alloc, case, ask, sheet) {
             sheet.refuse();
         }
     }
 }
 
 fn main(rt: HostRuntime) -> ExitCode {
-    run_cases(&rt, rt.alloc(), &Trials)
+    run_cases(&rt, rt.alloc(), &Trials { rt: &rt })
 }

@@ -1,8 +1,10 @@
 use crate::puts::{put_conds, put_proc, put_ranges};
 use crate::texts::program_of;
 use std::alloc::Global;
+use std::thread::Threads;
 use vmv_assumption::Assumption;
 use vmv_cases::{Case, Sheet};
+use vmv_crew::Open;
 use vmv_cond::Piece;
 use vmv_need::{Cut, Needed, ShownBy, necessary};
 use vmv_snapshot::{ParamBox, ProcId, Snapshot};
@@ -63,11 +65,16 @@ fn put_vacuous(base: &Snapshot, shown_by: &ShownBy, sheet: &mut Sheet) {
 }
 
 /// `? necessary`: the necessary conditions of the text `program` with the exclusions, or what shows that it is vacuous.
-pub fn necessary_of(alloc: Global, case: &Case, sheet: &mut Sheet) {
+pub fn necessary_of<R: Threads + Sync>(
+    rt: &R,
+    alloc: Global,
+    case: &Case,
+    sheet: &mut Sheet,
+) {
     let Some(base) = program_of(alloc, case, sheet) else {
         return;
     };
-    match necessary(alloc, &base) {
+    match necessary(rt, alloc, &base, 1, &Open) {
         Ok(Needed::Conditions { assumption, cuts }) => {
             put_necessary(&base, &assumption, cuts.as_slice(), sheet);
         }

@@ -1,7 +1,9 @@
 use crate::given::{can_answer, given_of};
 use crate::texts::{entry_of, program_of};
 use std::alloc::Global;
+use std::thread::Threads;
 use vmv_cases::{Case, Sheet, word};
+use vmv_crew::Open;
 use vmv_enough::{Witness, witnesses};
 use vmv_run::Answer;
 
@@ -34,7 +36,13 @@ fn put_found(found: &[Witness], sheet: &mut Sheet) {
 }
 
 /// `? probes ENTRY`: what the probes of an entry of the text `program` find under the conditions that the text `given` writes.
-pub fn probes_of(alloc: Global, case: &Case, ask: &[u8], sheet: &mut Sheet) {
+pub fn probes_of<R: Threads + Sync>(
+    rt: &R,
+    alloc: Global,
+    case: &Case,
+    ask: &[u8],
+    sheet: &mut Sheet,
+) {
     let Some(revision) = program_of(alloc, case, sheet) else {
         return;
     };
@@ -48,7 +56,7 @@ pub fn probes_of(alloc: Global, case: &Case, ask: &[u8], sheet: &mut Sheet) {
         sheet.refuse();
         return;
     }
-    match witnesses(alloc, &revision, entry, &enough) {
+    match witnesses(rt, alloc, &revision, entry, &enough, 1, &Open) {
         Ok(found) => put_found(found.as_slice(), sheet),
         Err(_) => sheet.fall_short(),
     }

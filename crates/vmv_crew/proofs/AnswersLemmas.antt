@@ -1,4 +1,4 @@
-use Rattle.std.proofs.Common.{◌≡◌, ℕ, ◌+◌, ◌<◌, ◌≤◌, zero, suc, List, [], ◌∷◌, length, map, Result, Ok, Err, Vec, Global, IfOk, arith, ap, ◌∙◌, refl}
+use Rattle.std.proofs.Common.{◌≡◌, ℕ, ◌+◌, ◌<◌, ◌≤◌, zero, suc, List, [], ◌∷◌, length, map, slice_get, Some, Result, Ok, Err, Vec, Global, IfOk, arith, ap, subst, ◌∙◌, refl}
 use Rattle.std.specs.Prelude.{MatchResult}
 use Rattle.std.specs.List.{AllZip, Contains, range_with_len}
 use Rattle.vmv_crew.specs.Answers.{AnswersInOrder}
@@ -40,3 +40,16 @@ module _ {X : Type 0} (allows : ℕ → X → Type 0) where
       let first : x ≡ f from = only from x (omega arith) (omega arith) h.0 in
       let rest : xs ≡ map f (range_with_len (from + 1) n) = AnswersInOrder-map (from + 1) n xs f (λ k y low high. only k y (omega arith) (omega arith)) h.1 in
       ap (λ y. y ∷ xs) first ∙ ap (λ ys. f from ∷ ys) rest
+
+  -- the answer of a place is one that the place may have
+  pub answer_at : (from n : ℕ) (answers : List X) → AnswersInOrder allows from n answers → (k : ℕ) (answer : X) → slice_get answers k ≡ Some answer → allows (from + k) answer
+  answer_at from zero [] h k answer at = absurd (cc)
+  answer_at from zero (x ∷ xs) h k answer at = absurd h
+  answer_at from (suc n) [] h k answer at = absurd h
+  answer_at from (suc n) (x ∷ xs) h zero answer at =
+      let same : x ≡ answer = cc in
+      let here : from ≡ from + 0 = omega arith in
+      subst (λ i. allows i answer) here (subst (λ y. allows from y) same h.0)
+  answer_at from (suc n) (x ∷ xs) h (suc k) answer at =
+      let here : (from + 1) + k ≡ from + suc k = omega arith in
+      subst (λ i. allows i answer) here (answer_at (from + 1) n xs h.1 k answer at)

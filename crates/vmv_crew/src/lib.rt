@@ -8,6 +8,7 @@
 mod job;
 mod outs;
 mod parts;
+mod shared;
 mod turnstile;
 
 ghost use Rattle.std.specs.Prelude.{◌≡◌, ℕ, ◌<◌, ◌≤◌, IfOk, length, map};
@@ -16,6 +17,7 @@ ghost use Rattle.vmv_crew.specs.Answers.{AnswersInOrder, AllowsOnly};
 
 pub use job::{Job, Memory};
 pub use outs::Outs;
+pub use shared::Shared;
 use std::alloc::Global;
 use std::thread::Threads;
 pub use turnstile::{Open, Turnstile};

@@ -6,9 +6,10 @@ use crate::repeats::{Setting, put_turn, repeat};
 use crate::replies::put_reply;
 use crate::rows::put_rows;
 use std::alloc::Global;
+use std::thread::Threads;
 use vmv_cases::{Case, Sheet, number, tail, word};
 use vmv_desk::{Desk, StartFault};
-use vmv_gate::Gate;
+use vmv_gate::{Gate, Shared};
 use vmv_keeper::{Command, Judge, MemoryKeeper};
 
 /// The number of a call.
@@ -194,6 +195,11 @@ pub fn list(alloc: Global, case: &Case, sheet: &mut Sheet) {
 }
 
 /// `? gate`: the same by the gate.
-pub fn gated(alloc: Global, case: &Case, sheet: &mut Sheet) {
-    put_list(alloc, case, &Gate::new(&(), 1), sheet);
+pub fn gated<R: Threads + Shared + Sync>(
+    rt: &R,
+    alloc: Global,
+    case: &Case,
+    sheet: &mut Sheet,
+) {
+    put_list(alloc, case, &Gate::new(rt, 1), sheet);
 }

@@ -18,12 +18,23 @@ mod stores;
 
 use std::alloc::Global;
 use std::process::ExitCode;
+use std::thread::Threads;
 use vmv_cases::{Case, Sheet, Trial, run_cases, word};
+use vmv_crew::Shared;
 
-struct Trials;
+/// What the trials work with.
+struct Trials<'a, R> {
+    rt: &'a R,
+}
 
 /// Answers an ask about a history. Answers whether it is one.
-fn ask_history(alloc: Global, case: &Case, ask: &[u8], sheet: &mut Sheet) -> bool {
+fn ask_history<R: Threads + Shared + Sync>(
+    rt: &R,
+    alloc: Global,
+    case: &Case,
+    ask: &[u8],
+    sheet: &mut Sheet,
+) -> bool {
     let word = word(ask, 0);
     if word == b"replies".as_slice() {
         history::replies(alloc, case, ask, sheet);
@@ -34,7 +45,7 @@ fn ask_history(alloc: Global, case: &Case, ask: &[u8], sheet: &mut Sheet) -> boo
     } else if word == b"list".as_slice() {
         history::list(alloc, case, sheet);
     } else if word == b"gate".as_slice() {
-        history::gated(alloc, case, sheet);
+        history::gated(rt, alloc, case, sheet);
     } else {
         return false;
     }
@@ -42,7 +53,13 @@ fn ask_history(alloc: Global, case: &Case, ask: &[u8], sheet: &mut Sheet) -> boo
 }
 
 /// Answers an ask about a store or a judge. Answers whether it is one.
-fn ask_store(alloc: Global, case: &Case, ask: &[u8], sheet: &mut Sheet) -> bool {
+fn ask_store<R: Threads + Shared + Sync>(
+    rt: &R,
+    alloc: Global,
+    case: &Case,
+    ask: &[u8],
+    sheet: &mut Sheet,
+) -> bool {
     let word = word(ask, 0);
     if word == b"store".as_slice() {
         stores::store(alloc, case, ask, sheet);
@@ -51,7 +68,7 @@ fn ask_store(alloc: Global, case: &Case, ask: &[u8], sheet: &mut Sheet) -> bool 
     } else if word == b"inspect".as_slice() || word == b"compare".as_slice() {
         judged::judged(alloc, case, ask, sheet);
     } else if word == b"gate_inspect".as_slice() || word == b"gate_compare".as_slice() {
-        judged::gated(alloc, case, ask, sheet);
+        judged::gated(rt, alloc, case, ask, sheet);
     } else {
         return false;
     }
@@ -77,12 +94,13 @@ fn ask_small(alloc: Global, case: &Case, ask: &[u8], sheet: &mut Sheet) -> bool 
     true
 }
 
-impl Trial for Trials {
+impl<'a, R: Threads + Shared + Sync> Trial for Trials<'a, R> {
     fn answer(&self, alloc: Global, case: &Case, ask: &[u8], sheet: &mut Sheet) {
-        if ask_history(alloc, case, ask, sheet) {
+        self.rt.shared();
+        if ask_history(self.rt, alloc, case, ask, sheet) {
             return;
         }
-        if ask_store(alloc, case, ask, sheet) {
+        if ask_store(self.rt, alloc, case, ask, sheet) {
             return;
         }
         if !ask_small(alloc, case, ask, sheet) {
@@ -92,5 +110,5 @@ impl Trial for Trials {
 }
 
 fn main(rt: HostRuntime) -> ExitCode {
-    run_cases(&rt, rt.alloc(), &Trials)
+    run_cases(&rt, rt.alloc(), &Trials { rt: &rt })
 }

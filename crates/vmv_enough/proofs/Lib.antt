@@ -1,4 +1,5 @@
 pub mod Lists
+pub mod Planned
 pub mod Judged
 pub mod Opened
 pub mod Room

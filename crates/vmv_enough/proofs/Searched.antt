@@ -1,11 +1,12 @@
 -- What the first so many probes find.
 use Rattle.std.proofs.Common.{◌≡◌, ◌≢◌, ◌⊎◌, inl, inr, ⊎_elim, ℕ, zero, suc, Bool, true, false, IsTrue, ◌↔◌, ◌+◌, ◌<◌, ◌≤◌, Option, Some, None, List, [], ◌∷◌, ◌++◌, length, take, get_or, slice_get, map, refl, sym, subst, ◌∙◌, arith}
 use Rattle.std.specs.List.{All, AllZip, Contains}
-use Rattle.std.proofs.lemmas.Option.{slice_get_within}
+use Rattle.std.proofs.lemmas.Option.{slice_get_within, slice_get-get_or}
 use Rattle.std.proofs.lemmas.List.{take_all}
 use Rattle.std.proofs.lemmas.List.Elements.{All-nil, All-push, Contains-append_left, Contains-append_right}
 use Rattle.std.proofs.lemmas.List.Quantifiers.{all_pairs_push}
 use Rattle.vmv_tree.specs.declared.site.NamedSite.{NamedSite}
+use Rattle.vmv_crew.specs.Answers.{AnswersInOrder}
 use Rattle.vmv_snapshot.specs.Resolution.{Resolution}
 use Rattle.vmv_snapshot.proofs.Zips.{take_one_more}
 use Rattle.vmv_snapshot.proofs.Lookups.{contains_at, at_contains}
@@ -15,8 +16,8 @@ use Rattle.vmv_witness.specs.declared.witness.Witness.{Witness}
 use Rattle.vmv_enough.specs.declared.probe.Probe.{Probe}
 use Rattle.vmv_enough.specs.Failures.{FailsAt, IsCounterexample}
 use Rattle.vmv_enough.specs.Found.{FailsIn, IsFirstFailure, AreFailures}
-use Rattle.vmv_enough.specs.Tried.{IsTried}
-use Rattle.vmv_enough.proofs.Lists.{first_in, push_at, old_at, new_at, mapped_at}
+use Rattle.vmv_enough.specs.Tried.{IsTried, IsTriedAt, AddsFirst}
+use Rattle.vmv_enough.proofs.Lists.{first_in, push_at, old_at, new_at, mapped_at, something_at}
 
 module _ (program : Resolution) (n : ℕ) (assumed : Assumed) where
   -- a failing probe among one more is an old one, or the last
@@ -158,3 +159,55 @@ is_there found told site result e is so = subst (λ xs. Contains (sites_of xs) s
 pub tried_nothing : (program : Resolution) (n : ℕ) (assumed : Assumed) (p : Probe) (o : Option Witness) → IsTried program n assumed p o → ((w : Witness) → o ≡ Some w → ⊥) → IsTried program n assumed p None
 tried_nothing program n assumed p None h never = h
 tried_nothing program n assumed p (Some w) h never = absurd (never w refl)
+
+-- what is found, where these answers of probes are left
+pub record IsLeft (program : Resolution) (n : ℕ) (assumed : Assumed) (probes : List Probe) (left : List (Option Witness)) (found : List Witness) : Type 0 where
+  pub i : ℕ
+  pub searched : IsSearched program n assumed probes i found
+  pub answers : AnswersInOrder (IsTriedAt program n assumed probes) i (length left) left
+  pub count : i + length left ≡ length probes
+
+pub left_start : (program : Resolution) (n : ℕ) (assumed : Assumed) (probes : List Probe) (tried left : List (Option Witness)) (found : List Witness) (count : ℕ) → found ≡ [] → left ≡ tried → count ≡ length probes → AnswersInOrder (IsTriedAt program n assumed probes) 0 count tried → length tried ≡ count →
+    IsLeft program n assumed probes left found
+left_start program n assumed probes tried left found count e same all answers counted = let P : List (Option Witness) → Type 0 = λ xs. IsLeft program n assumed probes xs found in subst P (sym same) (record {
+  i = 0;
+  searched = searched_start program n assumed probes found e;
+  answers = subst (λ (k : ℕ). AnswersInOrder (IsTriedAt program n assumed probes) 0 k tried) (sym counted) answers;
+  count = let size = counted ∙ all in omega (arith, size);
+})
+
+-- the next probe
+pub searched_more : (program : Resolution) (n : ℕ) (assumed : Assumed) (probes : List Probe) (i : ℕ) (o : Option Witness) (found new : List Witness) → i < length probes → IsTriedAt program n assumed probes i o → AddsFirst found o new → IsSearched program n assumed probes i found →
+    IsSearched program n assumed probes (i + 1) new
+searched_more program n assumed probes i o found new h tried adds s =
+    let p = something_at probes i h in
+    let is : p.0 ≡ get_or probes i p.0 = let at : Some p.0 ≡ Some (get_or probes i p.0) = sym p.1 ∙ slice_get-get_or probes i p.0 h in cc in
+    by o p.0 is (tried p.0 p.1) adds
+  where
+    by : (o : Option Witness) (p : Probe) → p ≡ get_or probes i p → IsTried program n assumed p o → AddsFirst found o new → IsSearched program n assumed probes (i + 1) new
+    by None p is t a = subst (λ xs. IsSearched program n assumed probes (i + 1) xs) (sym a) (searched_none program n assumed probes i p found h is s t)
+    by (Some w) p is t a =
+        ⊎_elim
+        (λ (known : Contains (sites_of found) w.site × (new ≡ found)). subst (λ xs. IsSearched program n assumed probes (i + 1) xs) (sym known.1) (searched_known program n assumed probes i p found h is s w t known.0))
+        (λ (other : (¬ Contains (sites_of found) w.site) × (new ≡ found ++ w ∷ [])). searched_new program n assumed probes i p found h is s w new t other.0 other.1)
+        a
+
+pub left_more : (program : Resolution) (n : ℕ) (assumed : Assumed) (probes : List Probe) (left rest : List (Option Witness)) (o : Option Witness) (found new : List Witness) → left ≡ o ∷ rest → AddsFirst found o new → IsLeft program n assumed probes left found → IsLeft program n assumed probes rest new
+left_more program n assumed probes left rest o found new next adds is = by (let P : List (Option Witness) → Type 0 = λ xs. IsLeft program n assumed probes xs found in subst P next is)
+  where
+    by : IsLeft program n assumed probes (o ∷ rest) found → IsLeft program n assumed probes rest new
+    by l =
+        let count = l.count in
+        let inside : l.i < length probes = omega (arith, count) in
+        record {
+          i = l.i + 1;
+          searched = searched_more program n assumed probes l.i o found new inside l.answers.0 adds l.searched;
+          answers = l.answers.1;
+          count = omega (arith, count);
+        }
+
+pub left_none : (program : Resolution) (n : ℕ) (assumed : Assumed) (probes : List Probe) (left : List (Option Witness)) (found : List Witness) → length left ≡ 0 → IsLeft program n assumed probes left found → IsSearched program n assumed probes (length probes) found
+left_none program n assumed probes left found none l =
+    let count = l.count in
+    let same : l.i ≡ length probes = omega (arith, count, none) in
+    subst (λ (i : ℕ). IsSearched program n assumed probes i found) same l.searched

@@ -1,5 +1,5 @@
 -- Open demands, told by the sites that aren't provable.
-use Rattle.std.specs.Prelude.{◌≡◌, ℕ, ◌<◌, Option, Some, None, List, [], slice_get}
+use Rattle.std.specs.Prelude.{◌≡◌, ℕ, ◌<◌, Some, List, slice_get}
 use Rattle.std.specs.List.{Contains}
 use Rattle.vmv_tree.specs.declared.site.NamedSite.{NamedSite}
 use Rattle.vmv_cond.specs.declared.cond.Cond.{Cond}
@@ -7,7 +7,6 @@ use Rattle.vmv_snapshot.specs.declared.code.SiteId.{SiteId}
 use Rattle.vmv_snapshot.specs.Resolution.{Resolution}
 use Rattle.vmv_assumption.specs.Assumed.{Assumed}
 use Rattle.vmv_demands.specs.declared.demand.Demand.{Demand}
-use Rattle.vmv_enough.specs.declared.plan.Subject.{Subject}
 use Rattle.vmv_enough.specs.Open.{IsNamed, IsNarrower}
 
 -- the sites have this one, its procedure being told by its number
@@ -35,8 +34,3 @@ pub record IsFirstBy (program : Resolution) (sites : List NamedSite) (assumed : 
 -- none of these is open
 abbrev pub NoneBy : Resolution → List NamedSite → Assumed → List Demand → Type 0
 NoneBy program sites assumed demands = (j : ℕ) (other : Demand) → slice_get demands j ≡ Some other → ¬ IsOpenBy program sites assumed other
-
--- the demands of a place; a helper has none
-abbrev pub demands_of : Option Subject → List Demand
-demands_of (Some subject) = subject.demands
-demands_of None = []

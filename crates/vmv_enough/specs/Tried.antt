@@ -1,6 +1,6 @@
 -- What comes of one probe, and of the first so many.
-use Rattle.std.specs.Prelude.{◌≡◌, ℕ, ℤ, Option, Some, None, List, map, slice_get}
-use Rattle.std.specs.List.{AllZip}
+use Rattle.std.specs.Prelude.{◌≡◌, ◌⊎◌, ℕ, ℤ, Option, Some, None, List, [], ◌∷◌, ◌++◌, map, slice_get}
+use Rattle.std.specs.List.{AllZip, Contains}
 use Rattle.vmv_tree.specs.declared.name.Name.{Name}
 use Rattle.vmv_tree.specs.declared.tree.Param.{Param}
 use Rattle.vmv_tree.specs.Words.{IsWord}
@@ -53,3 +53,18 @@ pub record IsWitnessOf (program : Resolution) (n : ℕ) (words : List ℤ) (run 
 abbrev pub IsTried : Resolution → ℕ → Assumed → Probe → Option Witness → Type 0
 IsTried program n assumed probe (Some w) = FailsAt program n assumed probe w × IsCounterexample program n assumed w × ((v : Witness) → FailsAt program n assumed probe v → v.site ≡ w.site)
 IsTried program n assumed probe None = (v : Witness) → FailsAt program n assumed probe v → ⊥
+
+-- it is known of each of these probes
+abbrev pub AreReady : Resolution → ℕ → Assumed → List Probe → Type 0
+AreReady program n assumed probes = (probe : Probe) → Contains probes probe → IsReady program n assumed probe
+
+-- the probe in this place fails so, or it doesn't fail
+abbrev pub IsTriedAt : Resolution → ℕ → Assumed → List Probe → ℕ → Option Witness → Type 0
+IsTriedAt program n assumed probes place tried = (probe : Probe) → slice_get probes place ≡ Some probe → IsTried program n assumed probe tried
+
+-- a run is added where none before it is of its site
+abbrev pub AddsFirst : List Witness → Option Witness → List Witness → Type 0
+AddsFirst found None more = more ≡ found
+AddsFirst found (Some w) more =
+    (Contains (map (λ (v : Witness). v.site) found) w.site × (more ≡ found))
+    ⊎ ((¬ Contains (map (λ (v : Witness). v.site) found) w.site) × (more ≡ found ++ w ∷ []))

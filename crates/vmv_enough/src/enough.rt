@@ -1,7 +1,7 @@
-ghost use Rattle.std.specs.Prelude.{◌≡◌, ◌<◌, ◌≤◌, length, IfOk, IfSome, IfNone};
+ghost use Rattle.std.specs.Prelude.{◌≡◌, ◌<◌, ◌≤◌, IfOk, IfSome, IfNone};
 ghost use Rattle.std.specs.List.{Contains};
 ghost use Rattle.vmv_snapshot.specs.Procs.{outsides};
-ghost use Rattle.vmv_snapshot.specs.Resolution.{tree_of, procs_of};
+ghost use Rattle.vmv_snapshot.specs.Resolution.{tree_of};
 ghost use Rattle.vmv_assumption.specs.Assumed.{names_of, cond_of};
 ghost use Rattle.vmv_table_sound.specs.Told.{IsProved};
 ghost use Rattle.vmv_enough.specs.Plan.{IsPlan, AreJudged};
@@ -14,8 +14,10 @@ use crate::levels::{LEVELS, keep_to_level};
 use crate::open::first_open;
 use crate::plan::{Plan, plan_of};
 use std::alloc::{AllocError, Global};
+use std::thread::Threads;
 use vmv_assumption::Assumption;
 use vmv_cert::Sites;
+use vmv_crew::Turnstile;
 use vmv_demands::Demand;
 use vmv_snapshot::Snapshot;
 use vmv_table_sound::proved_programs_are_safe;
@@ -40,8 +42,7 @@ fn tighten(
     taken: usize,
 ) -> Option<usize>
     requires plan { IsPlan base.now plan.now }
-    requires judged { AreJudged base.now plan.now.ends (cond_of assumed.old) judged.now }
-    requires count { length judged.now ≡ length (procs_of base.now) }
+    requires judged { AreJudged base.now plan.now (cond_of assumed.old) judged.now }
     requires names { names_of assumed.old ≡ outsides (tree_of base.now) }
     requires taken { taken ≤ 4 }
     ensures names { names_of assumed.new ≡ names_of assumed.old }
@@ -62,11 +63,17 @@ fn tighten(
 /// The sufficient conditions of a program, from its necessary ones: these are tightened, by the first open demand or, where
 /// none is open, by the next level, until every site of every entry is provable. `None` where that doesn't come. It fails
 /// for want of memory alone.
-pub fn sufficient(
+///
+/// The entries are judged by so many workers, 1 to 64, before each step. Each entry passes the turnstile.
+pub fn sufficient<R: Threads + Sync, T: Turnstile + Sync>(
+    rt: &R,
     alloc: Global,
     base: &Snapshot,
     needed: &Assumption,
+    workers: u32,
+    turnstile: &T,
 ) -> Result<Option<Assumption>, AllocError>
+    requires workers { (1 ≤ workers) × (workers ≤ 64) }
     requires names { names_of needed.now ≡ outsides (tree_of base.now) }
     requires nonempty { NoneEmpty base.now (cond_of needed.now) }
     ensures sufficient { IfOk result (λ enough. IsSufficient base.now (cond_of needed.now) enough) }
@@ -80,7 +87,7 @@ pub fn sufficient(
     let mut assumed = needed.copy(alloc)?;
     let mut taken = 0;
     'tightening: loop {
-        let judged = judge(alloc, base, &plan, &assumed)?;
+        let judged = judge(rt, alloc, base, &plan, &assumed, workers, turnstile)?;
         if is_proved(base, &plan, &assumed, judged.as_slice()) {
             return Ok(Some(assumed));
         }

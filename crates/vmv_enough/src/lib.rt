@@ -15,7 +15,8 @@ mod sites;
 
 pub use enough::sufficient;
 pub use probe::{Mode, Probe};
-pub use search::{Found, witnesses};
+pub use search::{Found, witnesses, witnesses_in_turn};
+pub use vmv_crew::{Open, Turnstile};
 pub use vmv_witness::{
     ParamValue, Unfit, Values, Witness, WitnessFault, fit, read_witness, write_witness,
 };

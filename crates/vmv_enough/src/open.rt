@@ -1,11 +1,10 @@
-ghost use Rattle.std.specs.Prelude.{◌≡◌, ◌↔◌, length, IsTrue, IfSome, IfNone};
-ghost use Rattle.vmv_snapshot.specs.Resolution.{procs_of};
+ghost use Rattle.std.specs.Prelude.{◌≡◌, ◌↔◌, IsTrue, IfSome, IfNone};
 ghost use Rattle.vmv_assumption.specs.Assumed.{cond_of};
 ghost use Rattle.vmv_enough.specs.Plan.{IsPlan, AreJudged};
 ghost use Rattle.vmv_enough.specs.Open.{IsFirstOpen, NoneOpen};
-ghost use Rattle.vmv_enough.specs.OpenBy.{HasSite, Narrows, IsOpenBy, IsFirstBy, NoneBy, demands_of};
+ghost use Rattle.vmv_enough.specs.OpenBy.{HasSite, Narrows, IsOpenBy, IsFirstBy, NoneBy};
 
-use crate::plan::{Plan, Subject};
+use crate::plan::Plan;
 use crate::sites::is_among;
 use vmv_assumption::Assumption;
 use vmv_cert::Sites;
@@ -77,16 +76,6 @@ fn first_of(
     None
 }
 
-/// The demands of a procedure; a helper has none.
-fn demands_at(place: &Option<Subject>) -> &[Demand]
-    ensures { result.now ≡ demands_of place.now }
-{
-    match place {
-        Some(subject) => subject.demands.as_slice(),
-        None => &[],
-    }
-}
-
 /// The first open demand, by entry and place.
 pub(crate) fn first_open(
     base: &Snapshot,
@@ -95,14 +84,14 @@ pub(crate) fn first_open(
     judged: &[Sites],
 ) -> Option<Demand>
     requires plan { IsPlan base.now plan.now }
-    requires judged { AreJudged base.now plan.now.ends (cond_of assumed.now) judged.now }
-    requires count { length judged.now ≡ length (procs_of base.now) }
+    requires judged { AreJudged base.now plan.now (cond_of assumed.now) judged.now }
     ensures some { IfSome result (IsFirstOpen base.now plan.now.ends (cond_of assumed.now)) }
     ensures none { IfNone result (NoneOpen base.now plan.now.ends (cond_of assumed.now)) }
 {
-    let places = plan.places.as_slice();
-    for n in 0..places.len() {
-        let found = first_of(base, judged[n].as_slice(), assumed, demands_at(&places[n]));
+    let subjects = plan.subjects.as_slice();
+    for k in 0..subjects.len() {
+        let demands = subjects[k].demands.as_slice();
+        let found = first_of(base, judged[k].as_slice(), assumed, demands);
         if found.is_some() {
             return found;
         }

@@ -1,7 +1,7 @@
-ghost use Rattle.std.specs.Prelude.{◌≡◌, ◌<◌, true, Some, length, map, slice_get, IfOk};
+ghost use Rattle.std.specs.Prelude.{◌≡◌, ◌+◌, ◌<◌, true, Some, length, map, slice_get, IfOk, OnOk};
 ghost use Rattle.vmv_snapshot.specs.Procs.{is_entry};
 ghost use Rattle.vmv_snapshot.specs.Resolution.{procs_of};
-ghost use Rattle.vmv_enough.specs.Plan.{IsSubject, IsPlace, IsPlan};
+ghost use Rattle.vmv_enough.specs.Plan.{IsSubject, AreSubjects, IsPlan};
 
 use sqlite_items::Items;
 use std::alloc::{AllocError, Global};
@@ -13,6 +13,8 @@ use vmv_tree::Ends;
 /// What is looked at in an entry.
 #[derive(Drop)]
 pub(crate) struct Subject {
+    /// The entry.
+    pub(crate) entry: ProcId,
     /// Its thresholds.
     pub(crate) thresholds: Thresholds,
     /// Its demands.
@@ -24,8 +26,8 @@ pub(crate) struct Subject {
 pub(crate) struct Plan {
     /// The ends of its outside names.
     pub(crate) ends: Ends,
-    /// For each procedure, in text order, its subject; a helper has none.
-    pub(crate) places: Items<Option<Subject>>,
+    /// Its entries, in text order.
+    pub(crate) subjects: Items<Subject>,
 }
 
 /// What is looked at in an entry.
@@ -36,32 +38,48 @@ fn subject_of(
     ends: &Ends,
 ) -> Result<Subject, AllocError>
     requires { slice_get (map is_entry (procs_of base.now)) entry.0 ≡ Some true }
-    ensures { IfOk result (IsSubject base.now ends.now entry.0) }
+    ensures subject { IfOk result (IsSubject base.now ends.now) }
+    ensures entry { IfOk result (λ subject. subject.entry ≡ entry) }
 {
     let _ = base.program();
     let thresholds = Thresholds::of(alloc, base, entry, ends)?;
     let demands = demands(alloc, base, entry)?;
     Ok(Subject {
+        entry,
         thresholds,
         demands,
     })
 }
 
-/// The subject of a procedure, where it is an entry.
-fn place(
+/// Adds the procedure of this number, where it is an entry.
+fn add_subject(
     alloc: Global,
     base: &Snapshot,
-    proc: ProcId,
     ends: &Ends,
-) -> Result<Option<Subject>, AllocError>
-    requires { proc.0 < length (procs_of base.now) }
-    ensures { IfOk result (IsPlace base.now ends.now proc.0) }
+    subjects: &mut Items<Subject>,
+    number: u16,
+) -> Result<(), AllocError>
+    requires procs { number < length (procs_of base.now) }
+    requires before { AreSubjects base.now ends.now number subjects.old }
+    ensures { OnOk result (AreSubjects base.now ends.now (number + 1) subjects.new) }
 {
-    if base.is_entry(proc) {
-        Ok(Some(subject_of(alloc, base, proc, ends)?))
-    } else {
-        Ok(None)
+    let entry = ProcId(number);
+    if base.is_entry(entry) {
+        let subject = subject_of(alloc, base, entry, ends)?;
+        subjects.push(subject)?;
     }
+    Ok(())
+}
+
+/// What is looked at in each entry, in text order.
+fn subjects_of(alloc: Global, base: &Snapshot, ends: &Ends) -> Result<Items<Subject>, AllocError>
+    ensures { IfOk result (AreSubjects base.now ends.now (length (procs_of base.now))) }
+{
+    let mut subjects = Items::new(alloc);
+    for number in 0..base.proc_count() {
+        add_subject(alloc, base, ends, &mut subjects, number)?;
+    }
+    Ok(subjects)
 }
 
 /// What is looked at in a program.
@@ -69,9 +87,6 @@ pub(crate) fn plan_of(alloc: Global, base: &Snapshot) -> Result<Plan, AllocError
     ensures { IfOk result (IsPlan base.now) }
 {
     let ends = ends(alloc, base)?;
-    let mut places = Items::new(alloc);
-    for n in 0..base.proc_count() {
-        places.push(place(alloc, base, ProcId(n), &ends)?)?;
-    }
-    Ok(Plan { ends, places })
+    let subjects = subjects_of(alloc, base, &ends)?;
+    Ok(Plan { ends, subjects })
 }

@@ -8,6 +8,8 @@ ghost use Rattle.vmv_report_json.specs.Json.{report_json};
 
 use crate::judging::{compared, inspected};
 use std::alloc::{AllocError, Global};
+use std::thread::Threads;
+use vmv_crew::Shared;
 use vmv_edge::Text;
 use vmv_keeper::{Compared, Inspected, Judge};
 use vmv_report::correct_verdicts_hold;
@@ -51,7 +53,7 @@ impl<'a, R> Gate<'a, R> {
     }
 }
 
-impl<'a, R> Judge for Gate<'a, R> {
+impl<'a, R: Threads + Shared + Sync> Judge for Gate<'a, R> {
     ghost use Rattle.vmv_gate.specs.Judged.{Inspects, Compares, Keeps};
     ghost use Rattle.vmv_gate.specs.Said.{inspected_once, compared_once, read_utf8, read_both};
     ghost use Rattle.vmv_gate.specs.Kept.{keeps_itself, keeps_on, keeps_sound};
@@ -63,11 +65,13 @@ impl<'a, R> Judge for Gate<'a, R> {
     ghost keeps = { λ judge. Keeps };
 
     fn inspect(&self, alloc: Global, text: &Text) -> Result<Inspected, AllocError> {
-        inspected(alloc, text)
+        self.rt.shared();
+        inspected(self.rt, alloc, text, self.workers)
     }
 
     fn compare(&self, alloc: Global, base: &Text, revision: &Text) -> Result<Compared, AllocError> {
-        compared(alloc, base, revision)
+        self.rt.shared();
+        compared(self.rt, alloc, base, revision, self.workers)
     }
 
     ghost one_inspected = { λ judge text one other h k. inspected_once text one other h k };

@@ -8,6 +8,8 @@ ghost use Rattle.vmv_gate.specs.Judged.{Inspects, Compares, Keeps};
 ghost use Rattle.vmv_gate.specs.Since.{HoldSinceRoots};
 
 use crate::gate::Gate;
+use std::thread::Threads;
+use vmv_crew::Shared;
 use vmv_desk_rules::{histories_need_no_premise, well_rows_keep_chains};
 use vmv_report::correct_revisions_are_safe_within_the_necessary;
 
@@ -20,7 +22,7 @@ pub fn needs_hold_since_the_root<'a, R>(_gate: &Gate<'a, R>)
 }
 
 /// A law, with nothing to do: in rows that are well each version of a project's chain is relatively correct to its root.
-pub fn versions_are_correct_since_the_root<'a, R>(_gate: &Gate<'a, R>)
+pub fn versions_are_correct_since_the_root<'a, R: Threads + Shared + Sync>(_gate: &Gate<'a, R>)
     ensures { (tables : Tables) → WellBy Inspects Compares tables → KeepsChains Keeps tables }
 {
     well_rows_keep_chains(_gate);
@@ -29,7 +31,7 @@ pub fn versions_are_correct_since_the_root<'a, R>(_gate: &Gate<'a, R>)
 /// A law, with nothing to do: histories that begin without rows need no premise. After any commands, repeats and faults
 /// among them, the rows are well, each version of a project's chain is relatively correct to its root, and what is
 /// necessary holds since the root.
-pub fn histories_are_correct<'a, R>(_gate: &Gate<'a, R>)
+pub fn histories_are_correct<'a, R: Threads + Shared + Sync>(_gate: &Gate<'a, R>)
     ensures well { (new : Tables) (commands : List Command) (replies : List Reply) → RunsBy Inspects Compares no_rows commands new replies → WellBy Inspects Compares new }
     ensures correct { (new : Tables) (commands : List Command) (replies : List Reply) → RunsBy Inspects Compares no_rows commands new replies → KeepsChains Keeps new }
     ensures needed { (new : Tables) (commands : List Command) (replies : List Reply) → RunsBy Inspects Compares no_rows commands new replies → HoldSinceRoots new }

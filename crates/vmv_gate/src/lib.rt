@@ -10,3 +10,4 @@ pub use gate::Gate;
 pub use laws::{
     histories_are_correct, needs_hold_since_the_root, versions_are_correct_since_the_root,
 };
+pub use vmv_crew::Shared;

@@ -1,9 +1,11 @@
 -- The turns of a round, one after the other.
-use Rattle.std.proofs.Common.{◌≡◌, ◌≢◌, ◌↔◌, inl, inr, ⊎_elim, ℕ, suc, ◌+◌, ◌<◌, ◌≤◌, Bool, true, false, if◌then◌else◌, IsTrue, Some, List, [], ◌∷◌, ◌++◌, length, take, get_or, slice_get, refl, sym, ap, subst, ◌∙◌, arith, append_assoc, append-nil, length-append}
+use Rattle.std.proofs.Common.{◌≡◌, ◌≢◌, ◌↔◌, inl, inr, ⊎_elim, ℕ, suc, ◌+◌, ◌<◌, ◌≤◌, Bool, true, false, if◌then◌else◌, IsTrue, Some, List, [], ◌∷◌, ◌++◌, length, take, get_or, refl, sym, ap, subst, ◌∙◌, arith, append_assoc, append-nil, length-append}
 use Rattle.std.specs.List.{flat_map}
 use Rattle.std.proofs.lemmas.Grind.{flat_map-append}
 use Rattle.std.proofs.lemmas.List.{take_all}
 use Rattle.std.proofs.lemmas.Option.{slice_get-get_or}
+use Rattle.vmv_crew.specs.Answers.{AnswersInOrder}
+use Rattle.vmv_crew.proofs.AnswersLemmas.{answer_at}
 use Rattle.vmv_snapshot.specs.Resolution.{Resolution}
 use Rattle.vmv_tree.specs.declared.name.Name.{Name}
 use Rattle.vmv_assumption.specs.Whole.{whole}
@@ -16,7 +18,7 @@ use Rattle.vmv_need.specs.Candidates.{candidates_of}
 use Rattle.vmv_need.specs.Acts.{Meets}
 use Rattle.vmv_need.specs.Rounds.{cut_of, IsTurn, AreTurns, IsRound, AreRounds, HasCuts}
 use Rattle.vmv_need.specs.Plan.{IsJudged, AreJudged}
-use Rattle.vmv_need.proofs.Lists.{got_pushed, take_at}
+use Rattle.vmv_need.proofs.Lists.{take_at}
 use Rattle.vmv_need.proofs.Meeting.{meets_in, meeting}
 use Rattle.vmv_need.proofs.Turns.{turns_count}
 
@@ -40,21 +42,14 @@ turns_push acts under [] c first mid last made more turns turn =
 turns_push acts under (d ∷ cs) c first mid last made more (next, one, rest, t, turns, parts) turn =
     (next, one, rest ++ more, t, turns_push acts under cs c next mid last rest more turns turn, ap (λ (ms : List Cut). ms ++ more) parts ∙ append_assoc one rest more)
 
--- one more answer
-pub judged_more : (acts : Candidate → Type 0) (cs : List Candidate) (place : ℕ) (old new : List Bool) (answer : Bool) →
-    (length old ≡ place) × ((i : ℕ) (b : Bool) → slice_get old i ≡ Some b → IsJudged acts cs i b) → new ≡ old ++ answer ∷ [] → IsJudged acts cs place answer →
-    (length new ≡ place + 1) × ((i : ℕ) (b : Bool) → slice_get new i ≡ Some b → IsJudged acts cs i b)
-judged_more acts cs place old new answer before pushed here =
-    let longer = ap length pushed ∙ length-append old (answer ∷ []) in
-    let count = before.0 in (
-      omega (arith, longer, count),
-      λ i b at. ⊎_elim
-          (λ (there : slice_get old i ≡ Some b). before.1 i b there)
-          (λ (new : (i ≡ length old) × (answer ≡ b)).
-          let same : place ≡ i = let e = new.0 in omega (arith, e, count) in
-          subst (λ (a : Bool). IsJudged acts cs i a) new.1 (subst (λ (j : ℕ). IsJudged acts cs j answer) same here))
-          (got_pushed old answer i b (sym (ap (λ (xs : List Bool). slice_get xs i) pushed) ∙ at)),
-    )
+-- answers in the order of the places, one for each, are those of the candidates
+pub all_judged : (acts : Candidate → Type 0) (cs : List Candidate) (answers told : List Bool) (n : ℕ) → n ≡ length cs → told ≡ answers → AnswersInOrder (IsJudged acts cs) 0 n answers → length answers ≡ n → AreJudged acts cs told
+all_judged acts cs answers told n all same order count = subst (λ (xs : List Bool). AreJudged acts cs xs) (sym same) (record {
+  count = count ∙ all;
+  each = λ place answer at.
+      let here : 0 + place ≡ place = omega arith in
+      subst (λ (i : ℕ). IsJudged acts cs i answer) here (answer_at (IsJudged acts cs) 0 n answers order place answer at);
+})
 
 -- the turn of the candidate at a place, as it is judged
 pub turn_at : (acts : Candidate → Type 0) (cs : List Candidate) (answers : List Bool) (place under : ℕ) (c : Candidate) (answer : Bool) (first mid last : Assumed) (before cuts more : List Cut) → AreJudged acts cs answers → place < length cs →

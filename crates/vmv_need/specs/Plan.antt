@@ -1,7 +1,6 @@
 -- The order of the work, and what single steps of it do. Private contracts alone cite these definitions.
-use Rattle.std.specs.Prelude.{◌≡◌, ◌↔◌, ◌^◌, ◌<◌, ◌≤◌, ℕ, ℤ, true, Bool, IsTrue, Some, Option, List, length, map, take, slice_get}
+use Rattle.std.specs.Prelude.{◌≡◌, ◌↔◌, ◌^◌, ◌<◌, ◌≤◌, ℕ, Bool, IsTrue, Some, List, length, map, take, slice_get}
 use Rattle.std.specs.List.{Contains}
-use Rattle.vmv_tree.specs.declared.ends.NameEnds.{NameEnds}
 use Rattle.vmv_tree.specs.declared.name.Name.{Name}
 use Rattle.vmv_tree.specs.declared.tree.Param.{Param}
 use Rattle.vmv_cond.specs.declared.cond.Cond.{Cond}

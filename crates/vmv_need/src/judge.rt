@@ -1,4 +1,4 @@
-ghost use Rattle.std.specs.Prelude.{◌≡◌, ◌↔◌, ◌<◌, length, IsTrue, IfOk};
+ghost use Rattle.std.specs.Prelude.{◌≡◌, ◌↔◌, ◌<◌, ◌≤◌, length, IsTrue, IfOk};
 ghost use Rattle.std.specs.List.{Contains};
 ghost use Rattle.vmv_assumption.specs.Assumed.{cond_of};
 ghost use Rattle.vmv_need.specs.Candidates.{candidates_of};
@@ -9,8 +9,10 @@ use crate::candidate::Candidate;
 use crate::death::death_of;
 use crate::plan::Plan;
 use std::alloc::{AllocError, Global};
+use std::thread::Threads;
 use vmv_assumption::Assumption;
 use vmv_cond::{Cond, Piece};
+use vmv_crew::{Job, Turnstile, fan};
 use vmv_snapshot::Snapshot;
 
 /// What is lent to those who judge the candidates of a round: one answer a candidate, which depends on this alone.
@@ -65,15 +67,32 @@ impl Judging<'_> {
         Ok(acts)
     }
 
-    /// Which candidates act, by their places.
-    pub(crate) fn judge_all(&self, alloc: Global) -> Result<Vec<bool>, AllocError>
+    /// Which candidates act, by their places: one job a candidate, by so many workers.
+    pub(crate) fn judge_all<R: Threads + Sync, T: Turnstile + Sync>(
+        &self,
+        rt: &R,
+        alloc: Global,
+        workers: u32,
+        turnstile: &T,
+    ) -> Result<Vec<bool>, AllocError>
         requires ready { IsReady self.now.base.now self.now.plan.now self.now.frozen.now }
+        requires workers { (1 ≤ workers) × (workers ≤ 64) }
         ensures { IfOk result (λ acting. AreJudged (Acts self.now.base.now self.now.plan.now.scope (cond_of self.now.frozen.now)) self.now.plan.now.candidates.items acting.items) }
     {
-        let mut acting = Vec::new(alloc);
-        for place in 0..self.plan.candidates.len() {
-            acting.push(self.judge(alloc, place)?)?;
-        }
-        Ok(acting)
+        let count = self.plan.candidates.len();
+        let acting = fan(rt, alloc, self, count, workers, turnstile)?;
+        Ok(acting.into_vec())
+    }
+}
+
+impl Job for Judging<'_> {
+    type Out = bool;
+
+    ghost can_run = { λ judging place. IsReady judging.base.now judging.plan.now judging.frozen.now × (place < length judging.plan.now.candidates.items) };
+
+    ghost allows = { λ judging place answer. IsJudged (Acts judging.base.now judging.plan.now.scope (cond_of judging.frozen.now)) judging.plan.now.candidates.items place answer };
+
+    fn run(&self, alloc: Global, place: usize) -> Result<bool, AllocError> {
+        self.judge(alloc, place)
     }
 }

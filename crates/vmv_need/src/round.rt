@@ -1,4 +1,4 @@
-ghost use Rattle.std.specs.Prelude.{◌≡◌, ◌++◌, List, length, IsTrue, IfOk, OnOk};
+ghost use Rattle.std.specs.Prelude.{◌≡◌, ◌≤◌, ◌++◌, List, length, IsTrue, IfOk, OnOk};
 ghost use Rattle.std.specs.List.{Contains};
 ghost use Rattle.vmv_snapshot.specs.Procs.{outsides};
 ghost use Rattle.vmv_snapshot.specs.Resolution.{tree_of};
@@ -12,7 +12,9 @@ use crate::cut::{Cut, Cuts};
 use crate::judge::{Judging, meets};
 use crate::plan::Plan;
 use std::alloc::{AllocError, Global};
+use std::thread::Threads;
 use vmv_assumption::Assumption;
+use vmv_crew::Turnstile;
 use vmv_snapshot::Snapshot;
 
 /// The exclusion that a candidate makes.
@@ -50,14 +52,22 @@ fn take_turn(
 
 impl Judging<'_> {
     /// A round: judges all candidates, then lets each that acts cut the assumption, and records the exclusions.
-    fn round(&self, alloc: Global, cuts: &mut Cuts) -> Result<Assumption, AllocError>
+    fn round<R: Threads + Sync, T: Turnstile + Sync>(
+        &self,
+        rt: &R,
+        alloc: Global,
+        cuts: &mut Cuts,
+        workers: u32,
+        turnstile: &T,
+    ) -> Result<Assumption, AllocError>
         requires ready { IsReady self.now.base.now self.now.plan.now self.now.frozen.now }
+        requires workers { (1 ≤ workers) × (workers ≤ 64) }
         requires room { HasRoom self.now.plan.now cuts.old }
         ensures names { IfOk result (λ next. names_of next ≡ names_of self.now.frozen.now) }
         ensures round { IfOk result (λ next. (made : List Cut) × IsRound self.now.base.now self.now.plan.now.scope (length cuts.old) (cond_of self.now.frozen.now) made (cond_of next) × (cuts.new ≡ cuts.old ++ made)) }
     {
         let under = cuts.len() as u32;
-        let acting = self.judge_all(alloc)?;
+        let acting = self.judge_all(rt, alloc, workers, turnstile)?;
         let mut running = self.frozen.copy(alloc)?;
         for place in 0..self.plan.candidates.len() {
             let candidate = self.plan.candidates[place];
@@ -77,8 +87,16 @@ pub(crate) struct Found {
 }
 
 /// Rounds, from the whole conditions until one records nothing.
-pub(crate) fn rounds(alloc: Global, base: &Snapshot, plan: &Plan) -> Result<Found, AllocError>
-    requires { IsPlanOf base.now plan.now }
+pub(crate) fn rounds<R: Threads + Sync, T: Turnstile + Sync>(
+    rt: &R,
+    alloc: Global,
+    base: &Snapshot,
+    plan: &Plan,
+    workers: u32,
+    turnstile: &T,
+) -> Result<Found, AllocError>
+    requires plan { IsPlanOf base.now plan.now }
+    requires workers { (1 ≤ workers) × (workers ≤ 64) }
     ensures names { IfOk result (λ found. names_of found.assumed ≡ outsides (tree_of base.now)) }
     ensures cuts { IfOk result (λ found. HasCuts base.now plan.now.scope (cond_of found.assumed) found.cuts) }
 {
@@ -91,7 +109,7 @@ pub(crate) fn rounds(alloc: Global, base: &Snapshot, plan: &Plan) -> Result<Foun
             plan,
             frozen: &frozen,
         };
-        let next = judging.round(alloc, &mut cuts)?;
+        let next = judging.round(rt, alloc, &mut cuts, workers, turnstile)?;
         if cuts.len() == before {
             return Ok(Found {
                 assumed: next,

@@ -3,6 +3,8 @@ pub mod Naming
 pub mod Placing
 pub mod Gathering
 pub mod Listing
+pub mod Lent
+pub mod Entered
 pub mod Reading
 pub mod Reporting
 pub mod Relating

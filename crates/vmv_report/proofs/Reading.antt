@@ -1,5 +1,5 @@
 -- What tables that have been made tell of an entry.
-use Rattle.std.proofs.Common.{◌≡◌, ◌↔◌, ⊎_elim, ℕ, zero, suc, ◌+◌, Bool, true, false, Option, Some, None, IfSome, IfNone, Bor, List, [], ◌∷◌, map, slice_get, sym, ap, subst, ◌∙◌, arith}
+use Rattle.std.proofs.Common.{◌≡◌, ◌↔◌, inl, inr, ⊎_elim, ℕ, zero, suc, ◌+◌, Bool, true, false, Option, Some, None, IfSome, IfNone, Bor, List, [], ◌∷◌, map, slice_get, sym, ap, subst, ◌∙◌, arith}
 use Rattle.std.specs.List.{AllZip, Contains}
 use Rattle.vmv_tree.specs.declared.ends.NameEnds.{NameEnds}
 use Rattle.vmv_tree.specs.declared.name.Name.{Name}
@@ -10,8 +10,10 @@ use Rattle.vmv_snapshot.specs.Procs.{is_entry}
 use Rattle.vmv_snapshot.specs.Resolution.{Resolution, IsResolution, tree_of, procs_of}
 use Rattle.vmv_assumption.specs.Assumed.{Assumed}
 use Rattle.vmv_cert.specs.declared.row.Row.{Row}
-use Rattle.vmv_cert.specs.Tables.{Box, IsEntry, ranges_of, Provable}
+use Rattle.vmv_cert.specs.Tables.{Box, IsEntry, ranges_of, Provable, AreSitesOf, Passes, WalksRow}
+use Rattle.vmv_cert.specs.Walk.{goes, fails}
 use Rattle.vmv_check.proofs.Above.{procs_once}
+use Rattle.vmv_enough.proofs.Lists.{mapped_at}
 use Rattle.vmv_forward.specs.Least.{IsLeastTable, IsFirst}
 use Rattle.vmv_need.specs.Candidates.{entries_from}
 use Rattle.vmv_need.proofs.Lists.{none_in, first_in, later_in, first_or_later}
@@ -88,9 +90,29 @@ abbrev pub DecideProof : Type 0
 DecideProof = (program : Resolution) (number : ℕ) (params : List Param) (ends : List NameEnds) (assumed : Assumed) (first : Row) (rest : List Row) (site : NamedSite) → IsResolution program → IsEntry program number params →
     IsLeastTable program number (ranges_of params) ends assumed (first ∷ rest) → Provable program number ends assumed site ↔ (Contains first.unproved site → ⊥)
 
+-- an accepted row lists sites that its procedure reaches
+row_sites : (program : Resolution) (n : ℕ) (assumed : Assumed) (rows : List Row) (row : Row) → IsResolution program → Passes program assumed rows row → IsFirst program n row → AreSitesOf program n row.unproved
+row_sites program n assumed rows row is (z, walks) first = by walks
+  where
+    stuck : goes z ≡ fails 0 → ⊥
+    stuck e = cc
+
+    by : WalksRow (record { program = program; assumed = assumed; rows = rows; row = row }) (goes z) → AreSitesOf program n row.unproved
+    by (inl x) = absurd (stuck x.1)
+    by (inr (m, item, code, formed, body)) =
+        let named : slice_get (map name_of (procs_of program)) m ≡ Some row.proc = mapped_at name_of (procs_of program) m item formed.place ∙ ap Some formed.named in
+        let number : m ≡ n = procs_once (tree_of program) is.valid m n row.proc named first in
+        subst (λ (k : ℕ). AreSitesOf program k row.unproved) number formed.sites
+
 pub unproved_by : HaveRows → DecideProof → (program : Resolution) (n : ℕ) (params : List Param) (ends : List NameEnds) (assumed : Assumed) (rows : List Row) (sites : List NamedSite) → IsResolution program → IsEntry program n params →
     IsLeastTable program n (ranges_of params) ends assumed rows → ((first : Row) (rest : List Row) → rows ≡ first ∷ rest → sites ≡ first.unproved) → AreUnproved program n ends assumed sites
-unproved_by have decide program n params ends assumed rows sites is entry least lists site =
-    let x = have program n (ranges_of params) ends assumed rows least in
-    let law = decide program n params ends assumed x.0 x.1 site is entry (subst (λ (rs : List Row). IsLeastTable program n (ranges_of params) ends assumed rs) x.2 least) in
-    subst (λ (ss : List NamedSite). Provable program n ends assumed site ↔ (Contains ss site → ⊥)) (sym (lists x.0 x.1 x.2)) law
+unproved_by have decide program n params ends assumed rows sites is entry least lists = record {
+  decides = λ site.
+      let x = have program n (ranges_of params) ends assumed rows least in
+      let law = decide program n params ends assumed x.0 x.1 site is entry (subst (λ (rs : List Row). IsLeastTable program n (ranges_of params) ends assumed rs) x.2 least) in
+      subst (λ (ss : List NamedSite). Provable program n ends assumed site ↔ (Contains ss site → ⊥)) (sym (lists x.0 x.1 x.2)) law;
+  sites =
+      let x = have program n (ranges_of params) ends assumed rows least in
+      let there : Contains rows x.0 = subst (λ (rs : List Row). Contains rs x.0) (sym x.2) (first_in x.0 x.1) in
+      subst (λ (ss : List NamedSite). AreSitesOf program n ss) (sym (lists x.0 x.1 x.2)) (row_sites program n assumed rows x.0 is (least.accepted x.0 there) x.3);
+}

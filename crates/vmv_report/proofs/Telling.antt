@@ -19,9 +19,10 @@ use Rattle.vmv_report.specs.declared.row.ReportRow.{ReportRow}
 use Rattle.vmv_report.specs.declared.proving.EntrySites.{EntrySites}
 use Rattle.vmv_report.specs.declared.told.Told.{Told}
 use Rattle.vmv_report.specs.Rows.{named_site, Place, IsPlace, place_of, regression_count, Review, IsAlwaysProvable, IsRelativelyProvable, IsOfClass, is_class, RegressesBy, StaysBy, IsFoundAt, IsWitnessBy}
-use Rattle.vmv_report.specs.Work.{at, AreFoundBy, AreSitesFor, IsInBoth, IsToldClass, IsNextRun, IsNoRun, IsToldBefore}
+use Rattle.vmv_report.specs.Work.{at, AreUnproved, AreFoundBy, AreSitesFor, IsInBoth, IsToldClass, IsNextRun, IsNoRun, IsToldBefore}
 use Rattle.vmv_report.proofs.Gathering.{no_rows, one_row}
 use Rattle.vmv_report.proofs.Counting.{other_counted, one_counted}
+use Rattle.vmv_report.proofs.Listing.{where_some}
 
 none_in : {X : Type 0} (x : X) → Contains [] x → ⊥
 none_in x (k, within, is) = absurd (omega (arith, within))
@@ -73,16 +74,24 @@ one_more_run review n m k row w old new grown more count here is class regressio
 moved : (review : Review) (a : Assumed) (n : ℕ) (x y : NamedSite) → x ≡ y → Provable review.revision n review.ends a x → Provable review.revision n review.ends a y
 moved review a n x y s h = let Q : NamedSite → Type 0 = λ z. Provable review.revision n review.ends a z in subst Q s h
 
+-- what the other list has, where a site isn't always provable
+relatively : (review : Review) (n : ℕ) (sites : EntrySites) (named : NamedSite) → AreSitesFor review n sites → Contains sites.always named → AreUnproved review.revision n review.ends review.needed sites.relative
+relatively review n sites named are there = where_some sites.always (AreUnproved review.revision n review.ends review.needed) sites.relative named there are.relative
+
+-- the runs, where a site is in both lists
+pub runs_found : (review : Review) (n : ℕ) (sites : EntrySites) (named : NamedSite) → AreSitesFor review n sites → IsInBoth sites named → AreFoundBy review.revision review.enough n sites.found
+runs_found review n sites named are both = where_some sites.relative (AreFoundBy review.revision review.enough n) sites.found named both.1 are.found
+
 -- the class that the lists of an entry tell is that of the row
 pub class_right : (review : Review) (before : List ReportRow) (sites : EntrySites) (named : NamedSite) (row : ReportRow) → AreSitesFor review row.entry.0 sites → named_site review.revision row.site ≡ named → IsToldClass sites named (Some row.class) →
     IsOfClass review before row row.class
 class_right review before sites named row are s told = by row.class told
   where
     by : (class : Class) → IsToldClass sites named (Some class) → IsOfClass review before row class
-    by Clean t = moved review (λ name. whole) row.entry.0 named (named_site review.revision row.site) (sym s) ((are.always named).1 t)
+    by Clean t = moved review (λ name. whole) row.entry.0 named (named_site review.revision row.site) (sym s) ((are.always.decides named).1 t)
     by Hidden t = (
-      (λ p. (are.always named).0 (moved review (λ name. whole) row.entry.0 (named_site review.revision row.site) named s p) t.0),
-      moved review review.needed row.entry.0 named (named_site review.revision row.site) (sym s) ((are.relative named t.0).1 t.1),
+      (λ p. (are.always.decides named).0 (moved review (λ name. whole) row.entry.0 (named_site review.revision row.site) named s p) t.0),
+      moved review review.needed row.entry.0 named (named_site review.revision row.site) (sym s) (((relatively review row.entry.0 sites named are t.0).decides named).1 t.1),
     )
     by Regression t = absurd t
     by Alarm t = absurd t
@@ -97,7 +106,7 @@ told_other sites named Alarm t = refl
 pub neither : (review : Review) (sites : EntrySites) (row : ReportRow) → AreSitesFor review row.entry.0 sites → IsInBoth sites (named_site review.revision row.site) → (¬ IsAlwaysProvable review row) × (¬ IsRelativelyProvable review row)
 neither review sites row are both =
     let site = named_site review.revision row.site in
-    ((λ p. (are.always site).0 p both.0), (λ p. (are.relative site both.0).0 p both.1))
+    ((λ p. (are.always.decides site).0 p both.0), (λ p. ((relatively review row.entry.0 sites site are both.0).decides site).0 p both.1))
 
 -- the next run makes the row a regression
 pub run_is : (revision : Resolution) (enough : Option (List (Name × Cond))) (found : List Witness) (before : List ReportRow) (row : ReportRow) (w : Witness) → AreFoundBy revision enough row.entry.0 found →

@@ -1,12 +1,14 @@
 -- The order of the work. Private contracts alone cite these definitions.
-use Rattle.std.specs.Prelude.{◌≡◌, ◌≢◌, ◌↔◌, ◌⊎◌, ◌<◌, ◌≤◌, ℕ, Option, Some, None, IfSome, List, [], ◌∷◌, ◌++◌, length, ⊤}
+use Rattle.std.specs.Prelude.{◌≡◌, ◌≢◌, ◌↔◌, ◌⊎◌, ◌<◌, ◌≤◌, ℕ, true, Option, Some, None, IfSome, List, [], ◌∷◌, ◌++◌, length, map, slice_get, ⊤}
 use Rattle.std.specs.List.{All, AllPairs, Contains}
 use Rattle.vmv_tree.specs.declared.ends.NameEnds.{NameEnds}
 use Rattle.vmv_tree.specs.declared.site.NamedSite.{NamedSite}
+use Rattle.vmv_snapshot.specs.declared.code.ProcId.{ProcId}
+use Rattle.vmv_snapshot.specs.Procs.{is_entry}
 use Rattle.vmv_snapshot.specs.Resolution.{Resolution, IsResolution, procs_of}
 use Rattle.vmv_assumption.specs.Whole.{whole}
 use Rattle.vmv_assumption.specs.Assumed.{Assumed, cond_of}
-use Rattle.vmv_cert.specs.Tables.{Provable}
+use Rattle.vmv_cert.specs.Tables.{AreSitesOf, Provable}
 use Rattle.vmv_tree.specs.declared.name.Name.{Name}
 use Rattle.vmv_cond.specs.declared.cond.Cond.{Cond}
 use Rattle.vmv_witness.specs.declared.witness.Witness.{Witness}
@@ -40,29 +42,55 @@ IsShownOf program (Doomed entry within table) = entry.0 < length (procs_of progr
 abbrev pub review_of : Judging → Review
 review_of j = record { revision = j.revision.now; ends = j.ends.now; needed = cond_of j.needed.now; enough = j.enough.now }
 
--- the resolution is one, the first assumption is whole, under the sufficient conditions each outside name has an answer, and
--- tables that have been made are those of the entries
+-- the procedure of this number is an entry
+abbrev pub IsEntryOf : Resolution → ℕ → Type 0
+IsEntryOf program n = slice_get (map is_entry (procs_of program)) n ≡ Some true
+
+-- those of the first n procedures that are entries, in text order
+pub record AreEntries (program : Resolution) (n : ℕ) (entries : List ProcId) : Type 0 where
+  pub each : (place : ℕ) (entry : ProcId) → slice_get entries place ≡ Some entry → IsEntryOf program entry.0 × (entry.0 < n)
+  pub rising : (place later : ℕ) (entry next : ProcId) → place < later → slice_get entries place ≡ Some entry → slice_get entries later ≡ Some next → entry.0 < next.0
+  pub all : (m : ℕ) → m < n → IsEntryOf program m → (place : ℕ) × (entry : ProcId) × (slice_get entries place ≡ Some entry) × (entry.0 ≡ m)
+
+-- the resolution is one, with its entries, the first assumption is whole, under the sufficient conditions each outside name has
+-- an answer, and tables that have been made are those of the entries
 pub record IsReady (j : Judging) : Type 0 where
   pub is_resolution : IsResolution j.revision.now
   pub whole : (cond_of j.whole.now) ≡ (λ name. whole)
   pub nonempty : (held : List (Name × Cond)) → j.enough.now ≡ Some held → NoneEmpty j.revision.now (cond_of held)
   pub shown : IfSome j.shown (λ list. AreShown j.revision.now j.ends.now (cond_of j.needed.now) list.now)
+  pub entries : AreEntries j.revision.now (length (procs_of j.revision.now)) j.entries.now
 
--- the list has the sites that aren't provable for the entry of this number
-abbrev pub AreUnproved : Resolution → ℕ → List NameEnds → Assumed → List NamedSite → Type 0
-AreUnproved program n ends assumed sites = (site : NamedSite) → Provable program n ends assumed site ↔ (Contains sites site → ⊥)
+-- the sites that aren't provable for the entry of this number, sorted by procedure in text order, then by number, and distinct
+pub record AreUnproved (program : Resolution) (n : ℕ) (ends : List NameEnds) (assumed : Assumed) (listed : List NamedSite) : Type 0 where
+  pub decides : (site : NamedSite) → Provable program n ends assumed site ↔ (Contains listed site → ⊥)
+  pub sites : AreSitesOf program n listed
 
 -- what the probes of the entry of this number find under the sufficient conditions, where there are some
 abbrev pub AreFoundBy : Resolution → Option (List (Name × Cond)) → ℕ → List Witness → Type 0
 AreFoundBy revision (Some held) n found = AreFound revision n (cond_of held) found × All (IsCounterexample revision n (cond_of held)) found
 AreFoundBy revision None n found = found ≡ []
 
--- The one list has the sites that aren't always provable for the entry; of these the other has those that aren't relatively
--- provable. The runs are those that the probes find, where some site is in both.
+-- empty where nothing is in the first list, else as it is said
+abbrev pub WhereSome : {A B : Type 0} → List A → (List B → Type 0) → List B → Type 0
+WhereSome [] said ys = ys ≡ []
+WhereSome (x ∷ xs) said ys = said ys
+
+-- The one list has the sites that aren't always provable for the entry; where there are some, the other has those that aren't
+-- relatively provable. The runs are those that the probes find, where the other has some.
 pub record AreSitesFor (review : Review) (n : ℕ) (sites : EntrySites) : Type 0 where
   pub always : AreUnproved review.revision n review.ends (λ name. whole) sites.always
-  pub relative : (site : NamedSite) → Contains sites.always site → Provable review.revision n review.ends review.needed site ↔ (Contains sites.relative site → ⊥)
-  pub found : (site : NamedSite) → Contains sites.always site → Contains sites.relative site → AreFoundBy review.revision review.enough n sites.found
+  pub relative : WhereSome sites.always (AreUnproved review.revision n review.ends review.needed) sites.relative
+  pub found : WhereSome sites.relative (AreFoundBy review.revision review.enough n) sites.found
+
+-- those of the entry in this place
+abbrev pub AreSitesAt : Review → List ProcId → ℕ → EntrySites → Type 0
+AreSitesAt review entries place sites = (entry : ProcId) → slice_get entries place ≡ Some entry → AreSitesFor review entry.0 sites
+
+-- those of each entry
+pub record AreSitesOfAll (review : Review) (entries : List ProcId) (sites : List EntrySites) : Type 0 where
+  pub count : length sites ≡ length entries
+  pub each : (place : ℕ) (own : EntrySites) → slice_get sites place ≡ Some own → AreSitesAt review entries place own
 
 -- a site that is in both lists
 abbrev pub IsInBoth : EntrySites → NamedSite → Type 0

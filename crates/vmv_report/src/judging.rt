@@ -1,4 +1,4 @@
-ghost use Rattle.std.specs.Prelude.{◌≡◌, List, IfOk, IfSome};
+ghost use Rattle.std.specs.Prelude.{◌≡◌, ◌≤◌, List, IfOk, IfSome};
 ghost use Rattle.vmv_tree.specs.declared.name.Name.{Name};
 ghost use Rattle.vmv_cond.specs.declared.cond.Cond.{Cond};
 ghost use Rattle.vmv_assumption.specs.Assumed.{cond_of};
@@ -11,6 +11,7 @@ ghost use Rattle.vmv_report.specs.Work.{IsReady};
 ghost use Rattle.vmv_report.specs.Reports.{vacuous_report, IsReviewed, IsReport};
 
 use crate::class::Class;
+use crate::entries::entries_of;
 use crate::kept::Baseline;
 use crate::proving::Judging;
 use crate::report::Report;
@@ -20,7 +21,9 @@ use crate::rows::all_rows;
 use crate::told::Told;
 use sqlite_items::Items;
 use std::alloc::{AllocError, Global};
+use std::thread::Threads;
 use vmv_assumption::Assumption;
+use vmv_crew::Turnstile;
 use vmv_demands::ends;
 use vmv_need::{Needed, ShownBy};
 use vmv_proof::Shown;
@@ -51,8 +54,15 @@ fn copied(alloc: Global, enough: &Option<Assumption>) -> Result<Option<Assumptio
 }
 
 /// The report of a base that isn't vacuous.
-fn review(alloc: Global, judging: &Judging<'_>) -> Result<Report, AllocError>
-    requires { IsReady judging.now }
+fn review<R: Threads + Sync, T: Turnstile + Sync>(
+    rt: &R,
+    alloc: Global,
+    judging: &Judging<'_>,
+    workers: u32,
+    turnstile: &T,
+) -> Result<Report, AllocError>
+    requires ready { IsReady judging.now }
+    requires workers { (1 ≤ workers) × (workers ≤ 64) }
     ensures { IfOk result (IsReviewed judging.now.revision.now judging.now.ends.now judging.now.needed.now judging.now.enough.now) }
 {
     let conditions = judging.needed.copy(alloc)?;
@@ -61,7 +71,7 @@ fn review(alloc: Global, judging: &Judging<'_>) -> Result<Report, AllocError>
         rows,
         witnesses,
         ..
-    } = all_rows(alloc, judging)?;
+    } = all_rows(rt, alloc, judging, workers, turnstile)?;
     Ok(Report {
         verdict: verdict_of(rows.as_slice()),
         conditions: Some(conditions),
@@ -73,14 +83,18 @@ fn review(alloc: Global, judging: &Judging<'_>) -> Result<Report, AllocError>
 }
 
 /// The report of a base with these necessary conditions, by the tables of the revision's entries where they have been made.
-fn reviewed(
+fn reviewed<R: Threads + Sync, T: Turnstile + Sync>(
+    rt: &R,
     alloc: Global,
     baseline: &Baseline,
     needed: &Assumption,
     revision: &Snapshot,
     ends: &Ends,
     shown: Option<&[Shown]>,
+    workers: u32,
+    turnstile: &T,
 ) -> Result<Report, AllocError>
+    requires workers { (1 ≤ workers) × (workers ≤ 64) }
     requires needed { (cuts : List Recorded) × (baseline.now.needed ≡ Conditions needed.now cuts) }
     requires ends { AreEnds baseline.now.base ends.now }
     requires shown { IfSome shown (λ list. AreShown revision.now ends.now (cond_of needed.now) list.now) }
@@ -88,15 +102,17 @@ fn reviewed(
 {
     let _ = revision.program();
     let whole = Assumption::whole(alloc, baseline.base())?;
+    let entries = entries_of(alloc, revision)?;
     let judging = Judging {
         revision,
+        entries: entries.as_slice(),
         ends,
         whole: &whole,
         needed,
         enough: baseline.enough(),
         shown,
     };
-    let report = review(alloc, &judging)?;
+    let report = review(rt, alloc, &judging, workers, turnstile)?;
     Ok(report)
 }
 
@@ -116,13 +132,25 @@ fn vacuous_report(alloc: Global, shown: &ShownBy) -> Result<Report, AllocError>
 }
 
 /// What a review tells of a revision, by what was found of the base. It fails for want of memory alone.
-pub fn judge(alloc: Global, baseline: &Baseline, revision: &Snapshot) -> Result<Report, AllocError>
+///
+/// The entries of the revision are judged by so many workers, 1 to 64. Each entry passes the turnstile.
+pub fn judge<R: Threads + Sync, T: Turnstile + Sync>(
+    rt: &R,
+    alloc: Global,
+    baseline: &Baseline,
+    revision: &Snapshot,
+    workers: u32,
+    turnstile: &T,
+) -> Result<Report, AllocError>
+    requires { (1 ≤ workers) × (workers ≤ 64) }
     ensures { IfOk result (IsReport baseline.now.base revision.now) }
 {
     match baseline.needed() {
         Needed::Conditions { assumption, .. } => {
             let ends = ends(alloc, baseline.base())?;
-            reviewed(alloc, baseline, assumption, revision, &ends, None)
+            reviewed(
+                rt, alloc, baseline, assumption, revision, &ends, None, workers, turnstile,
+            )
         }
         Needed::Vacuous { shown_by } => vacuous_report(alloc, shown_by),
     }
@@ -130,20 +158,34 @@ pub fn judge(alloc: Global, baseline: &Baseline, revision: &Snapshot) -> Result<
 
 /// What `judge` tells, by tables of the revision's entries that have been made: no table is made once more. The ends are those
 /// of the base's outside names. It fails for want of memory alone.
-pub fn judge_by(
+pub fn judge_by<R: Threads + Sync, T: Turnstile + Sync>(
+    rt: &R,
     alloc: Global,
     baseline: &Baseline,
     revision: &Snapshot,
     ends: &Ends,
     shown: &[Shown],
+    workers: u32,
+    turnstile: &T,
 ) -> Result<Report, AllocError>
+    requires workers { (1 ≤ workers) × (workers ≤ 64) }
     requires ends { AreEnds baseline.now.base ends.now }
     requires shown { (held : List (Name × Cond)) (cuts : List Recorded) → baseline.now.needed ≡ Conditions held cuts → AreShown revision.now ends.now (cond_of held) shown.now }
     ensures { IfOk result (IsReport baseline.now.base revision.now) }
 {
     match baseline.needed() {
         Needed::Conditions { assumption, .. } => {
-            reviewed(alloc, baseline, assumption, revision, ends, Some(shown))
+            reviewed(
+                rt,
+                alloc,
+                baseline,
+                assumption,
+                revision,
+                ends,
+                Some(shown),
+                workers,
+                turnstile,
+            )
         }
         Needed::Vacuous { shown_by } => vacuous_report(alloc, shown_by),
     }

@@ -3,6 +3,7 @@
 
 mod class;
 mod conds;
+mod entries;
 mod finding;
 mod judging;
 mod kept;
@@ -28,3 +29,4 @@ pub use report::{Report, Witnesses};
 pub use row::{ReportRow, ReportRows};
 pub use row_texts::{class_count, class_word, is_class};
 pub use texts::{baseline_text, text_of};
+pub use vmv_crew::{Open, Turnstile};

@@ -1,4 +1,4 @@
-ghost use Rattle.std.specs.Prelude.{◌≡◌, ◌≢◌, ◌↔◌, ◌∷◌, List, Some, true, map, slice_get, IfOk, IfSome, IfNone, IsTrue};
+ghost use Rattle.std.specs.Prelude.{◌≡◌, ◌≢◌, ◌↔◌, ◌<◌, [], ◌∷◌, List, Some, true, length, map, slice_get, IfOk, IfSome, IfNone, IsTrue};
 ghost use Rattle.std.specs.List.{Contains};
 ghost use Rattle.vmv_snapshot.specs.Procs.{is_entry};
 ghost use Rattle.vmv_snapshot.specs.Resolution.{procs_of};
@@ -7,24 +7,27 @@ ghost use Rattle.vmv_assumption.specs.Assumed.{cond_of};
 ghost use Rattle.vmv_cert.specs.declared.row.Row.{Row as Listed};
 ghost use Rattle.vmv_proof.specs.declared.proof.Shown.{Shown as Tables};
 ghost use Rattle.vmv_proving.specs.Shown.{AreShown};
-ghost use Rattle.vmv_report.specs.Work.{review_of, IsReady, AreUnproved, AreFoundBy, AreSitesFor, IsToldClass};
+ghost use Rattle.vmv_report.specs.Work.{review_of, IsReady, AreUnproved, AreFoundBy, AreSitesFor, AreSitesAt, IsToldClass};
 
 use crate::class::Class;
 use sqlite_items::Items;
 use std::alloc::{AllocError, Global};
 use vmv_assumption::Assumption;
 use vmv_cert::{Row, Sites};
-use vmv_enough::{Found, witnesses};
+use vmv_crew::Job;
+use vmv_enough::{Found, witnesses_in_turn};
 use vmv_forward::{Thresholds, least_tables_decide_proof, least_tables_have_rows, unproved_sites};
 use vmv_proof::Shown;
 use vmv_snapshot::{ProcId, Snapshot};
 use vmv_tree::{Ends, Name, NamedSite};
 
-/// What the entries of a revision are judged with.
-#[derive(Clone, Copy)]
+/// What is lent to those who judge the entries of a revision: one answer an entry, which depends on this alone.
+#[derive(Drop)]
 pub(crate) struct Judging<'a> {
     /// The revision.
     pub(crate) revision: &'a Snapshot,
+    /// Its entries, in text order.
+    pub(crate) entries: &'a [ProcId],
     /// The ends of the base's outside names.
     pub(crate) ends: &'a Ends,
     /// The whole condition for each name.
@@ -57,7 +60,7 @@ fn found_by(alloc: Global, judging: &Judging<'_>, entry: ProcId) -> Result<Found
     let Some(enough) = judging.enough else {
         return Ok(Items::new(alloc));
     };
-    let found = witnesses(alloc, judging.revision, entry, enough)?;
+    let found = witnesses_in_turn(alloc, judging.revision, entry, enough)?;
     Ok(found)
 }
 
@@ -71,6 +74,7 @@ fn with_runs(
 ) -> Result<EntrySites, AllocError>
     requires ready { IsReady judging.now }
     requires entry { slice_get (map is_entry (procs_of judging.now.revision.now)) entry.0 ≡ Some true }
+    requires some { always ≢ [] }
     requires always { AreUnproved judging.now.revision.now entry.0 judging.now.ends.now (λ name. every_word) always }
     requires relative { AreUnproved judging.now.revision.now entry.0 judging.now.ends.now (cond_of judging.now.needed.now) relative }
     ensures { IfOk result (AreSitesFor (review_of judging.now) entry.0) }
@@ -159,6 +163,13 @@ fn shown_sites(
         unreachable!()
     };
     let always = first_sites(alloc, own.plain.rows.as_slice())?;
+    if always.is_empty() {
+        return Ok(EntrySites {
+            always,
+            relative: Items::new(alloc),
+            found: Items::new(alloc),
+        });
+    }
     let relative = first_sites(alloc, own.given.rows.as_slice())?;
     with_runs(alloc, judging, entry, always, relative)
 }
@@ -176,6 +187,32 @@ pub(crate) fn entry_sites(
     match judging.shown {
         Some(shown) => shown_sites(alloc, judging, entry, shown),
         None => made_sites(alloc, judging, entry),
+    }
+}
+
+impl Judging<'_> {
+    /// The sites that the entry at a place may fail at.
+    fn judge(&self, alloc: Global, place: usize) -> Result<EntrySites, AllocError>
+        requires ready { IsReady self.now }
+        requires place { place < length self.now.entries.now }
+        ensures { IfOk result (AreSitesAt (review_of self.now) self.now.entries.now place) }
+    {
+        let entries = self.entries;
+        let entry = entries[place];
+        let sites = entry_sites(alloc, self, entry)?;
+        Ok(sites)
+    }
+}
+
+impl Job for Judging<'_> {
+    type Out = EntrySites;
+
+    ghost can_run = { λ judging place. IsReady judging × (place < length judging.entries.now) };
+
+    ghost allows = { λ judging place sites. AreSitesAt (review_of judging) judging.entries.now place sites };
+
+    fn run(&self, alloc: Global, place: usize) -> Result<EntrySites, AllocError> {
+        self.judge(alloc, place)
     }
 }
 

@@ -1,16 +1,18 @@
-ghost use Rattle.std.specs.Prelude.{◌≡◌, ◌+◌, ◌<◌, Some, true, map, length, slice_get, IfOk, OnOk};
+ghost use Rattle.std.specs.Prelude.{◌≡◌, ◌+◌, ◌<◌, ◌≤◌, Some, true, map, length, slice_get, IfOk, OnOk};
 ghost use Rattle.vmv_snapshot.specs.Procs.{is_entry};
 ghost use Rattle.vmv_snapshot.specs.Reaches.{Reaches};
 ghost use Rattle.vmv_snapshot.specs.Resolution.{tree_of, procs_of};
 ghost use Rattle.vmv_report.specs.Rows.{named_site, IsPlace, AreRows, AreWitnesses};
-ghost use Rattle.vmv_report.specs.Work.{review_of, IsReady, AreSitesFor, IsInBoth, IsToldBefore, at};
+ghost use Rattle.vmv_report.specs.Work.{review_of, IsReady, AreSitesFor, AreSitesOfAll, IsInBoth, IsToldBefore, at};
 
 use crate::class::Class;
-use crate::proving::{EntrySites, Judging, class_of, entry_sites};
+use crate::proving::{EntrySites, Judging, class_of};
 use crate::row::ReportRow;
 use crate::told::{Told, copy_run, next_run};
 use sqlite_items::Items;
 use std::alloc::{AllocError, Global};
+use std::thread::Threads;
+use vmv_crew::{Turnstile, fan};
 use vmv_snapshot::{ProcId, SiteId};
 use vmv_tree::NamedSite;
 
@@ -136,29 +138,10 @@ fn add_procs(
     Ok(())
 }
 
-/// Adds the rows of a procedure that is an entry.
-fn add_entry(
-    alloc: Global,
-    told: &mut Told,
-    judging: &Judging<'_>,
-    number: u16,
-) -> Result<(), AllocError>
+/// The rows of a revision, with a run for each regression, from the sites of its entries.
+fn rows_of(alloc: Global, judging: &Judging<'_>, sites: &[EntrySites]) -> Result<Told, AllocError>
     requires ready { IsReady judging.now }
-    requires number { number < length (procs_of judging.now.revision.now) }
-    requires before { IsToldBefore (review_of judging.now) (at number 0 1) told.old }
-    ensures { OnOk result (IsToldBefore (review_of judging.now) (at (number + 1) 0 1) told.new) }
-{
-    let entry = ProcId(number);
-    if judging.revision.is_entry(entry) {
-        let sites = entry_sites(alloc, judging, entry)?;
-        return add_procs(alloc, told, judging, &sites, entry);
-    }
-    Ok(())
-}
-
-/// The rows of a revision, with a run for each regression.
-pub(crate) fn all_rows(alloc: Global, judging: &Judging<'_>) -> Result<Told, AllocError>
-    requires { IsReady judging.now }
+    requires sites { AreSitesOfAll (review_of judging.now) judging.now.entries.now sites.now }
     ensures rows { IfOk result (λ told. AreRows (review_of judging.now) told.rows) }
     ensures witnesses { IfOk result (λ told. AreWitnesses (review_of judging.now) told.rows told.witnesses) }
 {
@@ -167,8 +150,29 @@ pub(crate) fn all_rows(alloc: Global, judging: &Judging<'_>) -> Result<Told, All
         witnesses: Items::new(alloc),
         regressions: 0,
     };
-    for number in 0..judging.revision.proc_count() {
-        add_entry(alloc, &mut told, judging, number)?;
+    let entries = judging.entries;
+    for place in 0..entries.len() {
+        let entry = entries[place];
+        add_procs(alloc, &mut told, judging, &sites[place], entry)?;
     }
+    Ok(told)
+}
+
+/// The rows of a revision, with a run for each regression: one job an entry, by so many workers, and the rows in order.
+pub(crate) fn all_rows<R: Threads + Sync, T: Turnstile + Sync>(
+    rt: &R,
+    alloc: Global,
+    judging: &Judging<'_>,
+    workers: u32,
+    turnstile: &T,
+) -> Result<Told, AllocError>
+    requires ready { IsReady judging.now }
+    requires workers { (1 ≤ workers) × (workers ≤ 64) }
+    ensures rows { IfOk result (λ told. AreRows (review_of judging.now) told.rows) }
+    ensures witnesses { IfOk result (λ told. AreWitnesses (review_of judging.now) told.rows told.witnesses) }
+{
+    let count = judging.entries.len();
+    let sites = fan(rt, alloc, judging, count, workers, turnstile)?;
+    let told = rows_of(alloc, judging, sites.as_slice())?;
     Ok(told)
 }

@@ -7,7 +7,7 @@ use Rattle.vmv_enough.proofs.Tightened.{IsTightened}
 use Rattle.vmv_enough.proofs.enough.sufficient.Given as goal
 
 abbrev pub invariant-tightening : goal.invariant-tightening
-invariant-tightening l = IsTightened l.base l.plan.ends (cond_of l.fn.needed) (cond_of l.assumed) l.taken × (names_of l.assumed ≡ outsides (tree_of l.base))
+invariant-tightening g l = IsTightened l.base l.plan.ends (cond_of l.fn.needed) (cond_of l.assumed) l.taken × (names_of l.assumed ≡ outsides (tree_of l.base))
 
 abbrev pub decreases-tightening : goal.decreases-tightening
-decreases-tightening l = room l.base (cond_of l.assumed) l.taken
+decreases-tightening g l = room l.base (cond_of l.assumed) l.taken

@@ -4,6 +4,6 @@ use Rattle.vmv_enough.proofs.judge.is_proved.Goals as goal
 
 pub returns : goal.returns
 returns c = (
-  (λ t. proved_where_empty c.args.base.now c.args.plan.now.ends (cond_of c.args.assumed.now) c.args.judged.now c.requires.judged c.requires.count (c.are_empty.ensures.0 t)),
-  (λ proved. c.are_empty.ensures.1 (all_empty_where_proved c.args.base.now c.args.plan.now.ends (cond_of c.args.assumed.now) c.args.judged.now c.requires.judged proved)),
+  (λ t. proved_where_empty c.args.base.now c.args.plan.now (cond_of c.args.assumed.now) c.args.judged.now c.requires.plan c.requires.judged (c.are_empty.ensures.0 t)),
+  (λ proved. c.are_empty.ensures.1 (all_empty_where_proved c.args.base.now c.args.plan.now (cond_of c.args.assumed.now) c.args.judged.now c.requires.plan c.requires.judged proved)),
 )

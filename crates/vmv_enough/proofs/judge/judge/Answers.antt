@@ -1,12 +1,12 @@
-use Rattle.std.proofs.Common.{◌∙◌, ◌+◌, ◌∷◌, [], length, sym, ap, subst, length-append}
-use Rattle.vmv_assumption.specs.Assumed.{cond_of}
-use Rattle.vmv_enough.specs.Plan.{AreJudged}
-use Rattle.vmv_enough.proofs.Judged.{judged_more}
+use denote.Param.Send.{sendable}
+use Rattle.vmv_lent.proofs.Snapshots.{snapshot_sync}
+use Rattle.vmv_assumption.proofs.assumed.Assumption.TheSendSync as assumption
+use Rattle.vmv_enough.proofs.plan.Plan.TheSendSync as plan
+use Rattle.vmv_enough.proofs.Judged.{all_judged}
 use Rattle.vmv_enough.proofs.judge.judge.Goals as goal
 
-pub loop-n-preserved : goal.loop-n-preserved
-loop-n-preserved c =
-    let more = judged_more c.args.base.now c.args.plan.now.ends (cond_of c.args.assumed.now) c.loop-n.judged c.loop-n.n c.in_ok-unproved.field-0 c.loop-n.invariant.1 c.loop-n.invariant.0 c.in_ok-unproved.ensures in (
-      subst (λ xs. AreJudged c.args.base.now c.args.plan.now.ends (cond_of c.args.assumed.now) xs) (sym c.in_ok-push.ensures.ok) more,
-      ap length c.in_ok-push.ensures.ok ∙ length-append c.loop-n.judged (c.in_ok-unproved.field-0 ∷ []) ∙ ap (λ n. n + 1) c.loop-n.invariant.1,
-    )
+pub returns : goal.returns
+returns g c = all_judged _ _ _ _ _ _ c.len-count.ensures c.into_vec.ensures c.in_ok-judged.ensures.answers c.in_ok-judged.ensures.count
+
+pub fan-requires-sync-J : goal.fan-requires-sync-J
+fan-requires-sync-J g c κs within = let base = snapshot_sync in let planned = plan.the_sync in let assumed = assumption.the_sync in search sendable depth 20

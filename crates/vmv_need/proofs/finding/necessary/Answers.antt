@@ -7,7 +7,7 @@ use Rattle.vmv_need.proofs.Firsts.{where_some, where_none}
 use Rattle.vmv_need.proofs.finding.necessary.Goals as goal
 
 pub returns-in-Some-clause-needed : goal.returns-in-Some-clause-needed
-returns-in-Some-clause-needed c =
+returns-in-Some-clause-needed g c =
     let program = c.args.base.now in
     let scope = c.in_ok-plan.plan.scope in
     let assumed = cond_of c.in_ok-found.found.assumed in
@@ -23,7 +23,7 @@ returns-in-Some-clause-needed c =
     )
 
 pub returns-in-Some-clause-safe : goal.returns-in-Some-clause-safe
-returns-in-Some-clause-safe c = λ env covers safe.
+returns-in-Some-clause-safe g c = λ env covers safe.
     let program = c.args.base.now in
     let scope = c.in_ok-plan.plan.scope in
     let assumed = cond_of c.in_ok-found.found.assumed in
@@ -33,7 +33,7 @@ returns-in-Some-clause-safe c = λ env covers safe.
     none_is_safe program scope assumed env is (safe_within program scope assumed env is necessary covers safe) shown.0 covers safe
 
 pub returns-clause-needed : goal.returns-clause-needed
-returns-clause-needed c =
+returns-clause-needed g c =
     let program = c.args.base.now in
     let scope = c.in_ok-plan.plan.scope in
     let assumed = cond_of c.in_ok-found.found.assumed in (
@@ -48,7 +48,7 @@ returns-clause-needed c =
     )
 
 pub returns-clause-safe : goal.returns-clause-safe
-returns-clause-safe c = λ env covers safe.
+returns-clause-safe g c = λ env covers safe.
     let program = c.args.base.now in
     let scope = c.in_ok-plan.plan.scope in
     let assumed = cond_of c.in_ok-found.found.assumed in

@@ -8,8 +8,8 @@ use Rattle.vmv_need.proofs.Pushed.{IsSoFar}
 use Rattle.vmv_need.proofs.round.rounds.Given as goal
 
 abbrev pub invariant-rounds : goal.invariant-rounds
-invariant-rounds l =
+invariant-rounds g l =
     (names_of l.frozen ≡ outsides (tree_of l.base)) × IsSoFar l.base l.plan.scope (cond_of l.frozen) l.cuts
 
 abbrev pub decreases-rounds : goal.decreases-rounds
-decreases-rounds l = meeting (candidates_of l.plan.scope) (cond_of l.frozen)
+decreases-rounds g l = meeting (candidates_of l.plan.scope) (cond_of l.frozen)

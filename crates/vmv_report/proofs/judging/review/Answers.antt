@@ -3,7 +3,7 @@ use Rattle.vmv_report.specs.Rows.{verdict_of}
 use Rattle.vmv_report.proofs.judging.review.Goals as goal
 
 pub returns : goal.returns
-returns c = record {
+returns g c = record {
   conditions = ap Some c.in_ok-conditions.ensures;
   enough_is = c.in_ok-sufficient.ensures;
   rows = c.in_ok-rows.ensures.rows;

@@ -1,17 +1,12 @@
-use Rattle.std.proofs.Common.{◌≡◌, length, refl, arith}
-use Rattle.vmv_snapshot.specs.Resolution.{procs_of}
+use denote.Param.Send.{sendable}
+use Rattle.std.proofs.Common.{refl}
 use Rattle.vmv_report.specs.Work.{review_of}
-use Rattle.vmv_report.proofs.Gathering.{entries_done}
-use Rattle.vmv_report.proofs.Telling.{no_told}
+use Rattle.vmv_report.proofs.Lent.{judging_sync}
+use Rattle.vmv_report.proofs.Entered.{all_sites}
 use Rattle.vmv_report.proofs.rows.all_rows.Goals as goal
 
-pub loop-number-init : goal.loop-number-init
-loop-number-init c = no_told (review_of c.args.judging.now) _ c.new.ensures c.new-2.ensures refl
+pub fan-requires-sync-J : goal.fan-requires-sync-J
+fan-requires-sync-J g c κs within = let judging = judging_sync in search sendable depth 8
 
-pub returns-clause-rows : goal.returns-clause-rows
-returns-clause-rows c =
-    let end : c.loop-number.number ≡ length (procs_of c.args.judging.now.revision.now) = omega (arith, c.proc_count-number-end.ensures) in
-    entries_done (review_of c.args.judging.now) c.loop-number.number c.loop-number.told.rows end c.loop-number.invariant.rows
-
-pub returns-clause-witnesses : goal.returns-clause-witnesses
-returns-clause-witnesses c = c.loop-number.invariant.witnesses
+pub rows_of-requires-clause-sites : goal.rows_of-requires-clause-sites
+rows_of-requires-clause-sites g c = all_sites (review_of c.args.judging.now) c.args.judging.now.entries.now _ _ _ refl c.as_slice.ensures c.in_ok-sites.ensures.answers c.in_ok-sites.ensures.count
