@@ -1,4 +1,4 @@
-ghost use Rattle.std.specs.Prelude.{◌≡◌, codes, IfOk, IsErrOf};
+ghost use Rattle.std.specs.Prelude.{◌≡◌, ◌≤◌, codes, IfOk, IsErrOf};
 ghost use Rattle.vmv_edge.specs.Outside.{Rose};
 ghost use Rattle.vmv_snapshot.specs.Resolution.{tree_of};
 ghost use Rattle.vmv_command.specs.Command.{text_most, OnFile};
@@ -11,9 +11,10 @@ use crate::output::{Output, Stop};
 use crate::{TEXT_MOST, TEXT_MOST_BYTES};
 use std::alloc::{AllocError, Global};
 use std::sync::Arc;
+use std::thread::Threads;
 use vmv_edge::{Shelf, Text};
 use vmv_need::Needed;
-use vmv_report::{baseline, baseline_text};
+use vmv_report::{Open, baseline, baseline_text};
 use vmv_snapshot::Snapshot;
 use vmv_source::parse;
 
@@ -27,10 +28,16 @@ fn status_of(needed: &Needed) -> u8
 }
 
 // The output of the baseline of a program.
-fn baseline_program(alloc: Global, base: Snapshot) -> Result<Output, AllocError>
+fn baseline_program<R: Threads + Sync>(
+    rt: &R,
+    alloc: Global,
+    base: Snapshot,
+    workers: u32,
+) -> Result<Output, AllocError>
+    requires { (1 ≤ workers) × (workers ≤ 64) }
     ensures { IfOk result (λ output. BaselinesProgram (tree_of base) output.text output.status) }
 {
-    let found = baseline(alloc, Arc::new(alloc, base)?)?;
+    let found = baseline(rt, alloc, Arc::new(alloc, base)?, workers, &Open)?;
     let text = baseline_text(alloc, &found)?;
     Ok(Output {
         text,
@@ -39,21 +46,30 @@ fn baseline_program(alloc: Global, base: Snapshot) -> Result<Output, AllocError>
 }
 
 // The baseline of a text.
-fn baseline_of_text(alloc: Global, base: &Text) -> Result<Output, AllocError>
+fn baseline_of_text<R: Threads + Sync>(
+    rt: &R,
+    alloc: Global,
+    base: &Text,
+    workers: u32,
+) -> Result<Output, AllocError>
+    requires { (1 ≤ workers) × (workers ≤ 64) }
     ensures { IfOk result (λ output. OnProgram (codes "base") base.now BaselinesProgram output.text output.status) }
 {
     match parse(alloc, base.bytes()) {
-        Ok(base) => baseline_program(alloc, base),
+        Ok(base) => baseline_program(rt, alloc, base, workers),
         Err(fault) => fault_output(alloc, "base", fault),
     }
 }
 
-/// The baseline of the text under a name.
-pub(crate) fn baseline_file<F: Shelf>(
+/// The baseline of the text under a name, found by so many workers, 1 to 64.
+pub(crate) fn baseline_file<R: Threads + Sync, F: Shelf>(
+    rt: &R,
     alloc: Global,
     shelf: &mut F,
     base: &str,
+    workers: u32,
 ) -> Result<Output, Stop>
+    requires { (1 ≤ workers) × (workers ≤ 64) }
     ensures output { IfOk result (λ output. OnFile (F.told shelf.old) base.now (codes "base") text_most (λ b. OnProgram (codes "base") b BaselinesProgram) output.text output.status) }
     ensures failed { IsErrOf result Stop.Failed → Rose (F.fault_count shelf.old) (F.fault_count shelf.new) }
     ensures stands { ¬ (IsErrOf result Stop.Failed) → F.fault_count shelf.new ≡ F.fault_count shelf.old }
@@ -61,5 +77,5 @@ pub(crate) fn baseline_file<F: Shelf>(
     let Some(base) = read_text(alloc, shelf, base, TEXT_MOST_BYTES)? else {
         return Ok(too_long(alloc, "base", TEXT_MOST)?);
     };
-    Ok(baseline_of_text(alloc, &base)?)
+    Ok(baseline_of_text(rt, alloc, &base, workers)?)
 }

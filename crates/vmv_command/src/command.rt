@@ -1,6 +1,6 @@
-ghost use Rattle.std.specs.Prelude.{◌≡◌, ◌≢◌, ◌⊎◌, ℕ, List, [], map, IfOk, IsErrOf};
+ghost use Rattle.std.specs.Prelude.{◌≡◌, ◌≢◌, ◌≤◌, ◌⊎◌, ℕ, List, [], map, IfOk, IsErrOf};
 ghost use Rattle.std.specs.String.{string_bytes};
-ghost use Rattle.vmv_words.specs.Words.{AsksNothing};
+ghost use Rattle.vmv_words.specs.Words.{AsksNothing, workers_of};
 ghost use Rattle.vmv_words.specs.Requests.{request_of};
 ghost use Rattle.vmv_command.specs.Command.{IsWhole, Does, Outputs, VerdictHolds, ProofHolds};
 ghost use Rattle.vmv_command.specs.Regressions.{RegressionHolds};
@@ -19,13 +19,19 @@ use vmv_edge::{Shelf, Sink};
 use vmv_proof_check::accepted_proofs_are_sound;
 use vmv_report::{correct_verdicts_hold, only_correct_reports_say_so, regressing_reports_show_it};
 use vmv_vault::Vault;
-use vmv_words::{Request, read_words, words_ask_for_one_thing};
+use vmv_words::{Request, read_words, words_ask_for_few_workers, words_ask_for_one_thing};
 
 const USAGE: &[u8] =
     b"usage: vmv review BASE REV [--workers N] [--proof] | baseline BASE [--workers N] | recheck BASE REV PROOF | replay REV WITNESS | sample NUMBER [--workers N] | serve ADDRESS STORE COUNT [--workers N]\n";
 
 // The output of what is asked for.
-fn output_of<F: Shelf>(alloc: Global, shelf: &mut F, request: &Request) -> Result<Output, Stop>
+fn output_of<R: Threads + Sync, F: Shelf>(
+    rt: &R,
+    alloc: Global,
+    shelf: &mut F,
+    request: &Request,
+) -> Result<Output, Stop>
+    requires { (1 ≤ workers_of (request_of request.now)) × (workers_of (request_of request.now) ≤ 64) }
     ensures output { IfOk result (λ output. Does (F.told shelf.old) (request_of request.now) output.text output.status) }
     ensures failed { IsErrOf result Stop.Failed → Rose (F.fault_count shelf.old) (F.fault_count shelf.new) }
     ensures stands { ¬ (IsErrOf result Stop.Failed) → F.fault_count shelf.new ≡ F.fault_count shelf.old }
@@ -34,17 +40,17 @@ fn output_of<F: Shelf>(alloc: Global, shelf: &mut F, request: &Request) -> Resul
         Request::Review {
             base,
             revision,
+            workers,
             proof,
-            ..
-        } => review_files(alloc, shelf, *base, *revision, *proof),
-        Request::Baseline { base, .. } => baseline_file(alloc, shelf, *base),
+        } => review_files(rt, alloc, shelf, *base, *revision, *proof, *workers),
+        Request::Baseline { base, workers } => baseline_file(rt, alloc, shelf, *base, *workers),
         Request::Recheck {
             base,
             revision,
             proof,
         } => recheck_files(alloc, shelf, *base, *revision, *proof),
         Request::Replay { revision, witness } => replay_files(alloc, shelf, *revision, *witness),
-        Request::Sample { number, .. } => Ok(sample_output(alloc, *number)?),
+        Request::Sample { number, workers } => Ok(sample_output(rt, alloc, *number, *workers)?),
     }
 }
 
@@ -57,7 +63,7 @@ fn output_of<F: Shelf>(alloc: Global, shelf: &mut F, request: &Request) -> Resul
 /// All texts are read first, a proof's of at most 67,108,864 bytes and each other of at most 1,048,576; then the work is done;
 /// then the whole output is written.
 pub fn run<R: Threads + Sync, F: Shelf, O: Sink, V: Vault, D: Door>(
-    _rt: &R,
+    rt: &R,
     alloc: Global,
     words: &[String],
     shelf: &mut F,
@@ -83,12 +89,13 @@ pub fn run<R: Threads + Sync, F: Shelf, O: Sink, V: Vault, D: Door>(
     regressing_reports_show_it();
     accepted_proofs_are_sound();
     words_ask_for_one_thing();
+    words_ask_for_few_workers();
     let request = match read_words(alloc, words) {
         Ok(Some(request)) => request,
         Ok(None) => return print(out, USAGE, 9),
         Err(_) => return 8,
     };
-    match output_of(alloc, shelf, &request) {
+    match output_of(rt, alloc, shelf, &request) {
         Ok(output) => print(out, output.text.bytes(), output.status),
         Err(Stop::Failed) => 6,
         Err(Stop::Memory) => 8,

@@ -1,4 +1,4 @@
-ghost use Rattle.std.specs.Prelude.{◌≡◌, ◌++◌, codes, true, false, IfOk, IsErrOf};
+ghost use Rattle.std.specs.Prelude.{◌≡◌, ◌≤◌, ◌++◌, codes, true, false, IfOk, IsErrOf};
 ghost use Rattle.vmv_edge.specs.Outside.{Rose};
 ghost use Rattle.vmv_snapshot.specs.Resolution.{tree_of};
 ghost use Rattle.vmv_command.specs.Command.{text_most, OnFile, ReviewsTexts};
@@ -14,10 +14,11 @@ use crate::output::{Output, Stop};
 use crate::{TEXT_MOST, TEXT_MOST_BYTES};
 use std::alloc::{AllocError, Global};
 use std::sync::Arc;
+use std::thread::Threads;
 use vmv_edge::{Shelf, Text};
 use vmv_need::Needed;
 use vmv_proof_text::write_proof;
-use vmv_report::{Baseline, baseline, judge, text_of};
+use vmv_report::{Baseline, Open, baseline, judge, text_of};
 use vmv_report_laws::baselines_are_unique;
 use vmv_review_proof::{Judged, ProofStop, is_within_limit, judge_with_proof};
 use vmv_snapshot::Snapshot;
@@ -35,10 +36,17 @@ fn status_of(verdict: u8) -> u8
 }
 
 // The output of a review without its proof.
-fn report_output(alloc: Global, found: &Baseline, revision: &Snapshot) -> Result<Output, AllocError>
+fn report_output<R: Threads + Sync>(
+    rt: &R,
+    alloc: Global,
+    found: &Baseline,
+    revision: &Snapshot,
+    workers: u32,
+) -> Result<Output, AllocError>
+    requires { (1 ≤ workers) × (workers ≤ 64) }
     ensures { IfOk result (λ output. ReviewsBase false found.now revision.now output.text output.status) }
 {
-    let report = judge(alloc, found, revision)?; // without a proof
+    let report = judge(rt, alloc, found, revision, workers, &Open)?; // without a proof
     let text = text_of(alloc, &report, found.base(), revision)?; // without a proof
     Ok(Output {
         text,
@@ -86,11 +94,18 @@ fn judged_output(
 }
 
 // The output of a review with its proof, of a base that isn't vacuous.
-fn proved_output(alloc: Global, found: &Baseline, revision: &Snapshot) -> Result<Output, AllocError>
-    requires { HasConditions found.now.needed }
+fn proved_output<R: Threads + Sync>(
+    rt: &R,
+    alloc: Global,
+    found: &Baseline,
+    revision: &Snapshot,
+    workers: u32,
+) -> Result<Output, AllocError>
+    requires conditions { HasConditions found.now.needed }
+    requires workers { (1 ≤ workers) × (workers ≤ 64) }
     ensures { IfOk result (λ output. ReviewsBase true found.now revision.now output.text output.status) }
 {
-    let judged = judge_with_proof(alloc, found, revision)?;
+    let judged = judge_with_proof(rt, alloc, found, revision, workers, &Open)?;
     match is_within_limit(alloc, &judged.proof) {
         Ok(()) => judged_output(alloc, found, revision, &judged),
         Err(ProofStop::TooLarge { found }) => too_large(alloc, found),
@@ -99,17 +114,20 @@ fn proved_output(alloc: Global, found: &Baseline, revision: &Snapshot) -> Result
 }
 
 // The output of the review of a vacuous base, which has no proof.
-fn vacuous_output(
+fn vacuous_output<R: Threads + Sync>(
+    rt: &R,
     alloc: Global,
     found: &Baseline,
     revision: &Snapshot,
+    workers: u32,
 ) -> Result<Output, AllocError>
-    requires { HasConditions found.now.needed → ⊥ }
+    requires vacuous { HasConditions found.now.needed → ⊥ }
+    requires workers { (1 ≤ workers) × (workers ≤ 64) }
     ensures { IfOk result (λ output. ReviewsBase true found.now revision.now output.text output.status) }
 {
     baselines_are_unique();
     let base = found.base();
-    let report = judge(alloc, found, revision)?;
+    let report = judge(rt, alloc, found, revision, workers, &Open)?;
     let text = text_of(alloc, &report, base, revision)?;
     Ok(Output {
         text,
@@ -118,45 +136,54 @@ fn vacuous_output(
 }
 
 // The output of a review with its proof, where there is one.
-fn review_with_proof(
+fn review_with_proof<R: Threads + Sync>(
+    rt: &R,
     alloc: Global,
     found: &Baseline,
     revision: &Snapshot,
+    workers: u32,
 ) -> Result<Output, AllocError>
+    requires { (1 ≤ workers) × (workers ≤ 64) }
     ensures { IfOk result (λ output. ReviewsBase true found.now revision.now output.text output.status) }
 {
     match found.needed() {
-        Needed::Conditions { .. } => proved_output(alloc, found, revision),
-        Needed::Vacuous { .. } => vacuous_output(alloc, found, revision),
+        Needed::Conditions { .. } => proved_output(rt, alloc, found, revision, workers),
+        Needed::Vacuous { .. } => vacuous_output(rt, alloc, found, revision, workers),
     }
 }
 
 // The output of the review of a revision against a base.
-fn review_programs(
+fn review_programs<R: Threads + Sync>(
+    rt: &R,
     alloc: Global,
     base: Snapshot,
     revision: &Snapshot,
     proved: bool,
+    workers: u32,
 ) -> Result<Output, AllocError>
+    requires { (1 ≤ workers) × (workers ≤ 64) }
     ensures { IfOk result (λ output. ReviewsPrograms proved (tree_of base) (tree_of revision.now) output.text output.status) }
 {
-    let found = baseline(alloc, Arc::new(alloc, base)?)?;
+    let found = baseline(rt, alloc, Arc::new(alloc, base)?, workers, &Open)?;
     let _revision = revision.program();
     let _base = found.base();
     if proved {
-        review_with_proof(alloc, &found, revision)
+        review_with_proof(rt, alloc, &found, revision, workers)
     } else {
-        report_output(alloc, &found, revision)
+        report_output(rt, alloc, &found, revision, workers)
     }
 }
 
 // The review of two texts.
-fn review_texts(
+fn review_texts<R: Threads + Sync>(
+    rt: &R,
     alloc: Global,
     base: &Text,
     revision: &Text,
     proved: bool,
+    workers: u32,
 ) -> Result<Output, AllocError>
+    requires { (1 ≤ workers) × (workers ≤ 64) }
     ensures { IfOk result (λ output. ReviewsTexts proved base.now revision.now output.text output.status) }
 {
     let base = match parse(alloc, base.bytes()) {
@@ -167,17 +194,20 @@ fn review_texts(
         Ok(revision) => revision,
         Err(fault) => return fault_output(alloc, "revision", fault),
     };
-    review_programs(alloc, base, &revision, proved)
+    review_programs(rt, alloc, base, &revision, proved, workers)
 }
 
-/// The review of the texts under two names, with its proof where that is asked for.
-pub(crate) fn review_files<F: Shelf>(
+/// The review of the texts under two names by so many workers, 1 to 64, with its proof where that is asked for.
+pub(crate) fn review_files<R: Threads + Sync, F: Shelf>(
+    rt: &R,
     alloc: Global,
     shelf: &mut F,
     base: &str,
     revision: &str,
     proved: bool,
+    workers: u32,
 ) -> Result<Output, Stop>
+    requires { (1 ≤ workers) × (workers ≤ 64) }
     ensures output { IfOk result (λ output. OnFile (F.told shelf.old) base.now (codes "base") text_most (λ b. OnFile (F.told shelf.old) revision.now (codes "revision") text_most (ReviewsTexts proved b)) output.text output.status) }
     ensures failed { IsErrOf result Stop.Failed → Rose (F.fault_count shelf.old) (F.fault_count shelf.new) }
     ensures stands { ¬ (IsErrOf result Stop.Failed) → F.fault_count shelf.new ≡ F.fault_count shelf.old }
@@ -188,5 +218,7 @@ pub(crate) fn review_files<F: Shelf>(
     let Some(revision) = read_text(alloc, shelf, revision, TEXT_MOST_BYTES)? else {
         return Ok(too_long(alloc, "revision", TEXT_MOST)?);
     };
-    Ok(review_texts(alloc, &base, &revision, proved)?)
+    Ok(review_texts(
+        rt, alloc, &base, &revision, proved, workers,
+    )?)
 }

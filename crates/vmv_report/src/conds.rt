@@ -113,9 +113,9 @@ fn push_all_told(alloc: Global, out: &mut Vec<u8>, held: &[(Name, Cond)]) -> Res
     Ok(())
 }
 
-/// Writes necessary conditions.
+/// Writes necessary conditions: their number, and a line for each that is told. It fails for want of memory alone.
 #[tactic(auto, using(crate::proofs::Writing::writing))]
-pub(crate) fn push_held(
+pub fn push_held(
     alloc: Global,
     out: &mut Vec<u8>,
     held: &Assumption,

@@ -17,7 +17,7 @@ mod texts;
 mod told;
 
 pub use class::Class;
-pub use conds::{is_whole, is_zero_left_out};
+pub use conds::{is_whole, is_zero_left_out, push_held};
 pub use finding::baseline;
 pub use judging::{judge, judge_by};
 pub use kept::Baseline;
@@ -27,6 +27,6 @@ pub use laws::{
 };
 pub use report::{Report, Witnesses};
 pub use row::{ReportRow, ReportRows};
-pub use row_texts::{class_count, class_word, is_class};
+pub use row_texts::{class_count, class_word, counts_line, is_class, verdict_line};
 pub use texts::{baseline_text, text_of};
 pub use vmv_crew::{Open, Turnstile};

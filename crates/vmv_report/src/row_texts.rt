@@ -14,8 +14,8 @@ use std::alloc::{AllocError, Global};
 use vmv_snapshot::{ProcId, Snapshot};
 use vmv_witness::{Witness, write_witness};
 
-/// The first line.
-pub(crate) fn verdict_line(verdict: u8) -> &'static [u8]
+/// The first line of a report.
+pub fn verdict_line(verdict: u8) -> &'static [u8]
     ensures { result.now ≡ verdict_line verdict }
 {
     match verdict {
@@ -45,8 +45,8 @@ pub fn class_count(class: Class, rows: &[ReportRow]) -> usize
     rows.iter().filter(|row| is_class(class, row.class)).count()
 }
 
-/// The line of the numbers of rows.
-fn counts_line(alloc: Global, rows: &[ReportRow]) -> Result<String, AllocError>
+/// The line of the numbers of rows. It fails for want of memory alone.
+pub fn counts_line(alloc: Global, rows: &[ReportRow]) -> Result<String, AllocError>
     ensures { IfOk result (λ line. string_bytes line ≡ counts_line rows.now) }
 {
     let clean = class_count(Class::Clean, rows);

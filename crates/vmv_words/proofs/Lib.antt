@@ -1,5 +1,6 @@
 pub mod App
 pub mod Counts
+pub mod Few
 pub mod Just
 pub mod Looks
 pub mod Once

@@ -54,6 +54,14 @@ pub data Request : Type 0 where
   replay : (revision witness : Word) → Request
   sample : (number workers : ℕ) → Request
 
+-- by how many workers it is done
+abbrev pub workers_of : Request → ℕ
+workers_of (review base revision workers proof) = workers
+workers_of (baseline base workers) = workers
+workers_of (recheck base revision proof) = 1
+workers_of (replay revision witness) = 1
+workers_of (sample number workers) = workers
+
 -- the word of a command, with what stands behind it, is this request
 abbrev pub IsFor : Word → Given → Request → Type 0
 IsFor command g (review base revision count proved) =

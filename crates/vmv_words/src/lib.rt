@@ -7,5 +7,5 @@ mod laws;
 mod matches;
 mod request;
 
-pub use laws::words_ask_for_one_thing;
+pub use laws::{words_ask_for_few_workers, words_ask_for_one_thing};
 pub use request::{Request, read_words};
