@@ -218,7 +218,5 @@ pub(crate) fn review_files<R: Threads + Sync, F: Shelf>(
     let Some(revision) = read_text(alloc, shelf, revision, TEXT_MOST_BYTES)? else {
         return Ok(too_long(alloc, "revision", TEXT_MOST)?);
     };
-    Ok(review_texts(
-        rt, alloc, &base, &revision, proved, workers,
-    )?)
+    Ok(review_texts(rt, alloc, &base, &revision, proved, workers)?)
 }

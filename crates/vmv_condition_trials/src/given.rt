@@ -10,8 +10,8 @@ use std::alloc::Global;
 use std::thread::Threads;
 use vmv_assumption::Assumption;
 use vmv_cases::{Case, Sheet, number, word};
-use vmv_crew::Open;
 use vmv_cond::Cond;
+use vmv_crew::Open;
 use vmv_enough::sufficient;
 use vmv_snapshot::Snapshot;
 use vmv_tree::Name;
@@ -87,12 +87,7 @@ fn put_sufficient(found: Option<Assumption>, sheet: &mut Sheet) {
 }
 
 /// `? sufficient`: the sufficient conditions of the text `program`, from the necessary ones that the text `given` writes.
-pub fn sufficient_of<R: Threads + Sync>(
-    rt: &R,
-    alloc: Global,
-    case: &Case,
-    sheet: &mut Sheet,
-) {
+pub fn sufficient_of<R: Threads + Sync>(rt: &R, alloc: Global, case: &Case, sheet: &mut Sheet) {
     let Some(base) = program_of(alloc, case, sheet) else {
         return;
     };

@@ -16,6 +16,7 @@ use vmv_cases::{Case, Sheet, Trial, run_cases, word};
 use vmv_crew::Shared;
 
 /// What the trials work with.
+#[derive(Drop)]
 struct Trials<'a, R> {
     rt: &'a R,
 }

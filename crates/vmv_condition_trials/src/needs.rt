@@ -4,8 +4,8 @@ use std::alloc::Global;
 use std::thread::Threads;
 use vmv_assumption::Assumption;
 use vmv_cases::{Case, Sheet};
-use vmv_crew::Open;
 use vmv_cond::Piece;
+use vmv_crew::Open;
 use vmv_need::{Cut, Needed, ShownBy, necessary};
 use vmv_snapshot::{ParamBox, ProcId, Snapshot};
 
@@ -65,12 +65,7 @@ fn put_vacuous(base: &Snapshot, shown_by: &ShownBy, sheet: &mut Sheet) {
 }
 
 /// `? necessary`: the necessary conditions of the text `program` with the exclusions, or what shows that it is vacuous.
-pub fn necessary_of<R: Threads + Sync>(
-    rt: &R,
-    alloc: Global,
-    case: &Case,
-    sheet: &mut Sheet,
-) {
+pub fn necessary_of<R: Threads + Sync>(rt: &R, alloc: Global, case: &Case, sheet: &mut Sheet) {
     let Some(base) = program_of(alloc, case, sheet) else {
         return;
     };

@@ -195,11 +195,6 @@ pub fn list(alloc: Global, case: &Case, sheet: &mut Sheet) {
 }
 
 /// `? gate`: the same by the gate.
-pub fn gated<R: Threads + Shared + Sync>(
-    rt: &R,
-    alloc: Global,
-    case: &Case,
-    sheet: &mut Sheet,
-) {
+pub fn gated<R: Threads + Shared + Sync>(rt: &R, alloc: Global, case: &Case, sheet: &mut Sheet) {
     put_list(alloc, case, &Gate::new(rt, 1), sheet);
 }

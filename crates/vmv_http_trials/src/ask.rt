@@ -3,7 +3,9 @@ use crate::links::put_whole;
 use crate::requests::with_returns;
 use crate::sessions::{put_gated, put_session};
 use std::alloc::Global;
+use std::thread::Threads;
 use vmv_cases::{Case, Sheet, number, tail, word};
+use vmv_crew::Shared;
 
 /// How many bytes a link reads or writes in a call: the ask's last word, or more than any request has.
 fn most(ask: &[u8]) -> usize {
@@ -25,12 +27,18 @@ fn about(alloc: Global, case: &Case, ask: &[u8], request: &[u8], sheet: &mut She
     }
 }
 
-pub(crate) fn answer(alloc: Global, case: &Case, ask: &[u8], sheet: &mut Sheet) {
+pub(crate) fn answer<R: Threads + Shared + Sync>(
+    rt: &R,
+    alloc: Global,
+    case: &Case,
+    ask: &[u8],
+    sheet: &mut Sheet,
+) {
     let what = word(ask, 0);
     if what == b"session".as_slice() {
         put_session(alloc, case, tail(ask, 1), sheet);
     } else if what == b"gate".as_slice() {
-        put_gated(alloc, case, tail(ask, 1), sheet);
+        put_gated(rt, alloc, case, tail(ask, 1), sheet);
     } else if what == b"raw".as_slice() {
         about(alloc, case, ask, case.text(word(ask, 1)), sheet);
     } else {

@@ -11,16 +11,22 @@ mod show;
 
 use std::alloc::Global;
 use std::process::ExitCode;
+use std::thread::Threads;
 use vmv_cases::{Case, Sheet, Trial, run_cases};
+use vmv_crew::Shared;
 
-struct Trials;
+/// What the trials work with.
+#[derive(Drop)]
+struct Trials<'a, R> {
+    rt: &'a R,
+}
 
-impl Trial for Trials {
+impl<'a, R: Threads + Shared + Sync> Trial for Trials<'a, R> {
     fn answer(&self, alloc: Global, case: &Case, ask: &[u8], sheet: &mut Sheet) {
-        ask::answer(alloc, case, ask, sheet);
+        ask::answer(self.rt, alloc, case, ask, sheet);
     }
 }
 
 fn main(rt: HostRuntime) -> ExitCode {
-    run_cases(&rt, rt.alloc(), &Trials)
+    run_cases(&rt, rt.alloc(), &Trials { rt: &rt })
 }

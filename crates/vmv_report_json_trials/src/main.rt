@@ -14,6 +14,7 @@ use vmv_snapshot::Snapshot;
 use vmv_source::{TextFault, parse};
 
 /// What the trials work with.
+#[derive(Drop)]
 struct Trials<'a, R> {
     rt: &'a R,
 }
@@ -46,13 +47,7 @@ fn reviewed<R: Threads + Sync>(
 }
 
 /// Answers with the JSON of a review.
-fn json<R: Threads + Sync>(
-    rt: &R,
-    alloc: Global,
-    base: &[u8],
-    revision: &[u8],
-    sheet: &mut Sheet,
-) {
+fn json<R: Threads + Sync>(rt: &R, alloc: Global, base: &[u8], revision: &[u8], sheet: &mut Sheet) {
     let Some(base) = program(alloc, base, sheet) else {
         return;
     };

@@ -15,6 +15,7 @@ use vmv_snapshot::Snapshot;
 use vmv_source::{TextFault, parse};
 
 /// What the trials work with.
+#[derive(Drop)]
 struct Trials<'a, R> {
     rt: &'a R,
 }
