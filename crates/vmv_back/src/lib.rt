@@ -1,5 +1,4 @@
-//! What an entry's tests and sites tell of the values that matter: boxes of its parameters, and demands on the answers
-//! of outside functions.
+//! What an entry's tests tell of the values that matter: the boxes of its parameters.
 #![tactic(auto)]
 
 mod apart;

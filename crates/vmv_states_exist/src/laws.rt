@@ -13,22 +13,22 @@ ghost use Rattle.vmv_zone.specs.Args.{argument_at, AreOperands, IsArgsOf};
 ghost use Rattle.vmv_zone.specs.Read.{IsRangeOf};
 ghost use Rattle.vmv_step.specs.Enter.{IsEntered};
 
-/// Each state has a norm.
+/// No state is without a norm.
 pub fn norms_exist()
     ensures { (z : Zone) → ¬ (¬ ((n : Zone) × IsNormOf z n)) }
 {}
 
-/// There is a state after each guard.
+/// No guard is without a state behind it.
 pub fn guards_exist()
     ensures { (z : Zone) (test : ZoneTest) → ¬ (¬ ((g : Zone) × IsGuarded z test g)) }
 {}
 
-/// There is a state after each assignment.
+/// No assignment is without a state behind it.
 pub fn assignments_exist()
     ensures { (z : Zone) (to : ℕ) (value : ZoneValue) → vars_of z ≤ 16 → 1 ≤ to → ¬ (¬ ((r : Zone) × IsAssigned z to value r)) }
 {}
 
-/// Each list of arguments whose literals are words has a state.
+/// No list of arguments whose literals are words is without a state.
 pub fn argument_states_exist()
     ensures { (z : Zone) (args : List ZoneOperand) → length args ≤ 16 → AreOperands (vars_of z) args → ((i : ℕ) → i ≤ length args → FitsSigned w64 (shift (argument_at args i))) → ¬ (¬ ((r : Zone) × IsArgsOf z args r)) }
 {}
@@ -48,7 +48,7 @@ pub fn freed_states_exist()
     ensures { (z : Zone) (x : ℕ) → NotBottom z → (r : Zone) × IsFreed z r x }
 {}
 
-/// There is a condition that holds the values of an operand.
+/// No operand is without a condition that holds its values.
 pub fn ranges_exist()
     ensures { (z : Zone) (x : ZoneOperand) → ¬ (¬ ((c : Cond) × IsRangeOf z x c)) }
 {}
