@@ -63,7 +63,7 @@ pub fn an_empty_condition_exists()
     ensures { (c : Cond) × IsEmpty c }
 {}
 
-/// For each input there is a state in which a procedure starts.
+/// No input is without a state in which a procedure starts.
 pub fn entered_states_exist()
     ensures { (input : Zone) (params declared count : ℕ) → vars_of input ≡ params → count ≤ 16 → ¬ (¬ ((r : Zone) × IsEntered input params declared count r)) }
 {}
