@@ -62,15 +62,13 @@ abbrev pub Returns : Reach → ℤ → Type 0
 Returns Bottom word = ⊥
 Returns (Value c) word = Holds c word
 
--- The row is one of the helper of this number that holds for these arguments: its input is over the helper's parameters
--- and, normed, above the arguments' state.
+-- the row is one of the helper of this number that holds for these arguments: its input is over the helper's parameters
+-- and above the arguments' state
 pub record IsMatch (w : Walk) (callee : ℕ) (args : Zone) (row : Row) : Type 0 where
   pub one : Contains w.rows row
   pub named : slice_get (map name_of (procs_of w.program)) callee ≡ Some row.proc
   pub over : slice_get (map (λ item. length (params_of item)) (procs_of w.program)) callee ≡ Some (vars_of row.input)
-  pub input : Zone
-  pub norm : IsNormOf row.input input
-  pub above : IsBelow args input
+  pub above : IsBelow args row.input
 
 -- the condition holds the words that all matching rows return
 abbrev pub IsReturned : Walk → ℕ → Zone → Cond → Type 0

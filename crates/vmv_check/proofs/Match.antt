@@ -10,21 +10,18 @@ use Rattle.vmv_cond.specs.Cond.{Holds}
 use Rattle.vmv_snapshot.specs.Resolution.{procs_of}
 use Rattle.vmv_snapshot.proofs.Zips.{take_one_more}
 use Rattle.vmv_zone.specs.declared.zone.Zone.{Zone}
-use Rattle.vmv_zone.specs.Zone.{IsBelow, IsNormOf}
-use Rattle.vmv_zone.proofs.Equal.{norm_once}
+use Rattle.vmv_zone.specs.Zone.{IsBelow}
 use Rattle.vmv_cert.specs.declared.row.Row.{Row}
 use Rattle.vmv_cert.specs.Walk.{Walk, Returns, IsMatch, IsReturned, AreAllowed}
 use Rattle.vmv_check.specs.Walker.{HasParams, SomeMatch, IsNarrowed, IsAllowedSite}
 use Rattle.vmv_check.proofs.Lists.{some_same, push_in, old_in, new_in}
 
-pub matches : (w : Walk) (callee : ℕ) (args : Zone) (row : Row) (name : Name) (normed : Zone) → HasParams w.program callee args.vars → Contains w.rows row →
-    slice_get (map name_of (procs_of w.program)) callee ≡ Some name → row.proc ≡ name → row.input.vars ≡ args.vars → IsNormOf row.input normed → IsBelow args normed → IsMatch w callee args row
-matches w callee args row name normed params one at same vars norm below = record {
+pub matches : (w : Walk) (callee : ℕ) (args : Zone) (row : Row) (name : Name) → HasParams w.program callee args.vars → Contains w.rows row →
+    slice_get (map name_of (procs_of w.program)) callee ≡ Some name → row.proc ≡ name → row.input.vars ≡ args.vars → IsBelow args row.input → IsMatch w callee args row
+matches w callee args row name params one at same vars below = record {
   one = one;
   named = at ∙ ap (λ x. Some x) (sym same);
   over = params ∙ ap (λ n. Some n) (sym vars);
-  input = normed;
-  norm = norm;
   above = below;
 }
 
@@ -33,9 +30,6 @@ match_name w callee args row name at m = some_same (sym m.named ∙ at)
 
 pub match_vars : (w : Walk) (callee : ℕ) (args : Zone) (row : Row) → HasParams w.program callee args.vars → IsMatch w callee args row → row.input.vars ≡ args.vars
 match_vars w callee args row params m = some_same (sym m.over ∙ params)
-
-pub match_below : (w : Walk) (callee : ℕ) (args : Zone) (row : Row) (normed : Zone) → IsNormOf row.input normed → IsMatch w callee args row → IsBelow args normed
-match_below w callee args row normed norm m = subst (IsBelow args) (norm_once row.input m.input normed m.norm norm) m.above
 
 -- what was found among these rows
 abbrev pub Found : Walk → ℕ → Zone → List Row → Option Cond → Type 0

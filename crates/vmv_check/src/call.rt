@@ -60,7 +60,7 @@ impl Walker<'_> {
         if row.input.vars() != args.vars() {
             return false;
         }
-        is_below(args, &row.input)
+        args.below(&row.input)
     }
 
     /// What all matching rows say is returned, and `None` where no row matches.
@@ -171,15 +171,4 @@ impl Walker<'_> {
         }
         Ok(())
     }
-}
-
-/// Whether the arguments' state is below the norm of the input. It is over as many variables.
-#[inline(never)]
-fn is_below(args: &Zone, input: &Zone) -> bool
-    requires { vars_of args.now ≡ vars_of input.now }
-    ensures { (norm : Zone) × IsNormOf input.now norm × (IsTrue result ↔ IsBelow args.now norm) }
-{
-    let mut norm = *input;
-    norm.normalize();
-    args.below(&norm)
 }

@@ -127,12 +127,10 @@ match_returns : (q : Quest) (paths : List Path) (rows : List Row) (row other : R
     to.proc.0 ≡ callee.0 → IsMatch (walk_of q rows row) callee.0 args other → HoldsWord cond word → Returns other.result word
 match_returns q paths rows row other next to callee args cond word solved traced at proc m held =
     let t = traced other m.one in
-    let input = input_of q paths t.j t.is.path other.input solved t.is.one t.is.path_is t.is.input in
-    let same : m.input ≡ other.input = norm_once other.input m.input other.input m.norm (normal_norm other.input input.normal) in
     let number : to.proc.0 ≡ t.is.path.proc.0 = proc ∙ number_once q.program callee.0 t.is.path.proc.0 other solved.kept.resolution m.named t.is.named in
     let i = row_at q.program paths t.j other t.is in
     let own = own_walk q paths t.j t.is.path other.input t.is.range solved i in
-    let b = beside q paths next t.j to t.is.path args other.input cond t.is.range solved at i number (subst (λ (z : Zone). IsBelow args z) same m.above) own in
+    let b = beside q paths next t.j to t.is.path args other.input cond t.is.range solved at i number m.above own in
     held_returned t.is.range other.result word t.is.result (b.1 word held)
 
 -- the walk of a row, and of the instance that it is of
@@ -165,9 +163,7 @@ call_retold q paths rows row t own solved traced known c callee args cond called
       one = a.1;
       named = subst (λ n. slice_get (map name_of (procs_of q.program)) n ≡ Some a.0.proc) number at.named;
       over = subst (λ (z : Zone). HasParams q.program callee.0 (vars_of z)) (sym same) (subst (λ (p : ProcId). HasParams q.program p.0 (vars_of given)) proc call.over);
-      input = given;
-      norm = subst (λ (z : Zone). IsNormOf z given) (sym same) (normal_norm given call.normal);
-      above = under;
+      above = subst (λ (z : Zone). IsBelow args z) (sym same) under;
     } in
     let child : IsAt paths k.number call.to args cond = record { one = call.one; at = call.to_is; input_is = subst (λ (z : Zone). HasInput paths call.to z) (sym m.0) call.has; result_is = has } in (
       (a.0, one),

@@ -67,15 +67,13 @@ pub record IsAt (paths : List Path) (j : ℕ) (path : Path) (input : Zone) (resu
 pub record IsOver (program : Resolution) (rows : List Row) (path : Path) (input : Zone) (row : Row) : Type 0 where
   pub among : Contains rows row
   pub named : slice_get (map name_of (procs_of program)) path.proc.0 ≡ Some row.proc
-  pub normed : Zone
-  pub norm : IsNormOf row.input normed
-  pub above : IsBelow input normed
+  pub above : IsBelow input row.input
 
 pub instance_low : (q : Quest) (paths : List Path) (rows : List Row) (j : ℕ) (path : Path) (input : Zone) (result : Cond) (row : Row) → AreKept q paths → AreAccepted q rows → IsAt paths j path input result → IsOver q.program rows path input row →
     (h : Holding q.program q.assumed rows path.proc.0 row) → IsUnder (by_row (walk_of q rows row)) h.calls (stored_of q.assumed path) × IsAbove row.result result
 instance_low q paths rows j path input result row kept rival i o h =
-    kept.low (of_table rows) rival j path input o.normed h.end result h.item h.code (by_row (walk_of q rows row)) h.calls i.one i.at i.input_is i.result_is (record { place = h.formed.place; code_is = h.formed.code_is })
-    (row, record { among = o.among; item = h.item; code = h.code; formed = h.formed; norm = o.norm }, refl) o.above h.holds
+    kept.low (of_table rows) rival j path input row.input h.end result h.item h.code (by_row (walk_of q rows row)) h.calls i.one i.at i.input_is i.result_is (record { place = h.formed.place; code_is = h.formed.code_is })
+    (row, record { among = o.among; item = h.item; code = h.code; formed = h.formed; input = refl }, refl) o.above h.holds
 
 same_site : (a b : NamedSite) → a.proc ≡ b.proc → a.index ≡ b.index → a ≡ b
 same_site a b p i =
@@ -98,8 +96,8 @@ called_at q paths j path item code c next input known at call to =
     (r.0, record { one = call.one; at = call.to_is; input_is = call.has; result_is = result_of paths j c path call.to r.0 at call.caller_is call.place_is r.1 })
 
 -- the arguments and the input of a matching row are over the same variables
-match_vars : (w : Walk) (callee : ℕ) (args : Zone) (row : Row) (m : IsMatch w callee args row) → HasParams w.program callee (vars_of args) → args.vars ≡ m.input.vars
-match_vars w callee args row m over = some_same (sym over ∙ m.over) ∙ sym m.norm.vars
+match_vars : (w : Walk) (callee : ℕ) (args : Zone) (row : Row) (m : IsMatch w callee args row) → HasParams w.program callee (vars_of args) → args.vars ≡ row.input.vars
+match_vars w callee args row m over = some_same (sym over ∙ m.over)
 
 -- a site that is flagged where calls lead is listed by each row above
 listed_below : (q : Quest) (paths : List Path) (rows : List Row) (places : List ℕ) (k proc : ℕ) (site : NamedSite) (j : ℕ) (path : Path) (input : Zone) (result : Cond) (row : Row) → AreKept q paths → AreAccepted q rows →
@@ -134,9 +132,7 @@ listed_below q paths rows (place ∷ places) k proc site j path input result row
     (record {
       among = m.one;
       named = subst (λ n. slice_get (map name_of (procs_of q.program)) n ≡ Some row2.proc) (sym call.proc_is) m.named;
-      normed = m.input;
-      norm = m.norm;
-      above = below_trans input1 a.0 m.input (match_vars w call.callee.0 a.0 row2 m sized) a.2 m.above;
+      above = below_trans input1 a.0 row2.input (match_vars w call.callee.0 a.0 row2 m sized) a.2 m.above;
     }) leads)
 
 -- a result is below that of a row above
@@ -182,7 +178,5 @@ row_least q paths ends j row solved are is rows other accepted has among named b
     (record {
       among = among;
       named = is.named ∙ ap (λ (x : Name). Some x) (sym named);
-      normed = below.over;
-      norm = below.over_norm;
-      above = subst (λ (z : Zone). IsBelow z below.over) same below.below;
+      above = below_trans row.input below.over other.input below.over_norm.vars (subst (λ (z : Zone). IsBelow z below.over) same below.below) below.over_norm.below;
     })

@@ -39,3 +39,4 @@ mod Opening
 mod Reached
 mod Beside
 mod Flagging
+pub mod Stable

@@ -158,8 +158,8 @@ source_at q (of_table rows) n item code top source rival proc (row, at, is) =
       over = formed.over;
       thresholds = rival.thresholds row at.among;
       params = formed.input;
-      vars = at.norm.vars ∙ formed.input;
-      under = at.norm.below;
+      vars = ap (λ (z : Zone). z.vars) (sym at.input) ∙ formed.input;
+      under = subst (λ (z : Zone). IsBelow z row.input) at.input (below_same row.input);
     })
 source_at q (of_paths paths) n item code top source rival proc (range, path, at, is) =
     let proc' : IsProc q.program path.proc.0 item code = subst (λ k. IsProc q.program k item code) (sym at.proc) proc in
@@ -204,9 +204,9 @@ answer_above q xs (of_table rows) n c item code callee args top result cond sour
     let named : slice_get (map name_of (procs_of q.program)) child.to.proc.0 ≡ Some other.proc = subst (λ k. slice_get (map name_of (procs_of q.program)) k ≡ Some other.proc) (sym child.proc) m.named in
     let formed = formed_at q.program other goes.number child.to.proc.0 goes.item goes.code resolution goes.formed named in
     let meets = row_calls (walk_of q rows other) goes.item goes.code goes.end goes.walks in
-    let vars : args.vars ≡ m.input.vars = some_same (sym child.sized ∙ m.over) ∙ sym m.norm.vars in
-    let h = low child.number child.to child.input m.input goes.end result goes.item goes.code (by_row (walk_of q rows other)) meets.0 child.one child.at child.has child.given (proc_of q.program other child.to.proc.0 goes.item goes.code formed)
-    (other, record { among = m.one; item = goes.item; code = goes.code; formed = formed; norm = m.norm }, refl) (below_trans child.input args m.input vars child.below m.above) meets.1 in
+    let vars : args.vars ≡ other.input.vars = some_same (sym child.sized ∙ m.over) in
+    let h = low child.number child.to child.input other.input goes.end result goes.item goes.code (by_row (walk_of q rows other)) meets.0 child.one child.at child.has child.given (proc_of q.program other child.to.proc.0 goes.item goes.code formed)
+    (other, record { among = m.one; item = goes.item; code = goes.code; formed = formed; input = refl }, refl) (below_trans child.input args other.input vars child.below m.above) meets.1 in
     returns_of other.result result word h.1 held)
 answer_above q xs (of_paths paths) n c item code callee args top result cond source resolution rival low proc called (range, path, at, is) answer child word held =
     let told : Answers (by_stored top range (stored_of q.assumed path)) c callee args cond = subst (λ (s : Source). Answers s c callee args cond) is answer in

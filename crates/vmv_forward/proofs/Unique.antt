@@ -16,6 +16,7 @@ use Rattle.vmv_zone.specs.Zone.{vars_of, IsBelow, IsNormal, IsNormOf}
 use Rattle.vmv_zone.proofs.Equal.{below_both}
 use Rattle.vmv_zone.proofs.States.{below_trans}
 use Rattle.vmv_assumption.specs.Assumed.{Assumed}
+use Rattle.vmv_states_exist.proofs.Greatest.{norm_exists}
 use Rattle.vmv_step.specs.Enter.{declared_count}
 use Rattle.vmv_step.proofs.EnterPoints.{enter_mono, enter_normal}
 use Rattle.vmv_step.proofs.Procedures.{has_room}
@@ -37,6 +38,7 @@ use Rattle.vmv_forward.proofs.States.{below_same, normal_floored}
 use Rattle.vmv_forward.proofs.Instances.{normal_norm, proc_once}
 use Rattle.vmv_forward.proofs.Compare.{IsMetCall, IsBelowMet, Setting, held_run, block_lower}
 use Rattle.vmv_forward.proofs.Leastness.{holding}
+use Rattle.vmv_forward.proofs.Stable.{returns_stably}
 use Rattle.vmv_forward.proofs.Alike.{no_more_both}
 use Rattle.vmv_forward.proofs.FirstRows.{boxed_once, Extends, calls_extend, visits_extend}
 
@@ -101,17 +103,17 @@ words_fewer program number ends assumed T U row whole calls' one two c callee ar
       one = among;
       named = for.named;
       over = subst (λ (z : Zone). HasParams program callee.0 (vars_of z)) (sym for.input_is) b.over;
-      input = args;
-      norm = norm;
-      above = below_same args;
+      above = subst (λ (z : Zone). IsBelow args z) (sym for.input_is) (below_same args);
     } in
     let said : Returns r.result word = (returned word).0 held r m in
     (returned' word).1
     (λ x n.
-    (let vars : b.upper.vars ≡ n.input.vars = b.vars ∙ (some_same (sym b.over ∙ n.over) ∙ sym n.norm.vars) in
-    let below : IsNormBelow r.input x.input = record { under = args; under_norm = norm; over = n.input; over_norm = n.norm; below = below_trans args b.upper n.input vars b.below n.above } in
+    (let same : args.vars ≡ x.input.vars = some_same (sym b.over ∙ n.over) in
+    let under : IsBelow args x.input = below_trans args b.upper x.input (b.vars ∙ same) b.below n.above in
+    returns_stably x.result word (λ none. norm_exists x.input (λ m.
+    let below : IsNormBelow r.input x.input = record { under = args; under_norm = norm; over = m.0; over_norm = m.1; below = m.1.greatest args same b.normal under } in
     let less = one.least r among U x two.accepted two.thresholds n.one (some_same (sym n.named ∙ for.named)) below in
-    returns_on r.result x.result word less.result said))
+    none (returns_on r.result x.result word less.result said)))))
 
 -- the calls of a row's walk in the one table are below those in the other
 calls_lower : (program : Resolution) (number : ℕ) (ends : List NameEnds) (assumed : Assumed) (T U : List Row) (row : Row) (n : ℕ) (item : Item) (code : Code) (end end' : Zone) (calls calls' : List (Option Zone)) → IsResolution program →

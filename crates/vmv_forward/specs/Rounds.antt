@@ -84,13 +84,13 @@ abbrev pub IsRival : Quest → Rival → Type 0
 IsRival q (of_table rows) = AreAccepted q rows
 IsRival q (of_paths paths) = AreSettled q paths
 
--- a row of the procedure of this number, whose input has this norm
+-- a row of the procedure of this number, with this input
 pub record IsRowAt (q : Quest) (rows : List Row) (n : ℕ) (top : Zone) (row : Row) : Type 0 where
   pub among : Contains rows row
   pub item : Item
   pub code : Code
   pub formed : IsFormed q.program row n item code
-  pub norm : IsNormOf row.input top
+  pub input : row.input ≡ top
 
 -- an instance of the procedure of this number, with this input and this range of what it returns
 pub record IsPathAt (paths : List Path) (n : ℕ) (top : Zone) (range : Cond) (path : Path) : Type 0 where
@@ -101,7 +101,7 @@ pub record IsPathAt (paths : List Path) (n : ℕ) (top : Zone) (range : Cond) (p
   pub input : HasInput paths path top
   pub result : HasResult paths path range
 
--- the source is a row or an instance of the rival's, of the procedure of this number and with this input, which is normal
+-- the source is a row or an instance of the rival's, of the procedure of this number and with this input
 abbrev pub IsOf : Quest → Rival → ℕ → Zone → Source → Type 0
 IsOf q (of_table rows) n top source = (row : Row) × IsRowAt q rows n top row × (source ≡ by_row (walk_of q rows row))
 IsOf q (of_paths paths) n top source = (range : Cond) × (path : Path) × IsPathAt paths n top range path × (source ≡ by_stored top range (stored_of q.assumed path))

@@ -15,6 +15,7 @@ use Rattle.vmv_assumption.specs.Whole.{whole}
 use Rattle.vmv_assumption.specs.Assumed.{Assumed}
 use Rattle.vmv_assumption.specs.Within.{IsWithin}
 use Rattle.vmv_assumption.proofs.Pieces.{cut_below}
+use Rattle.vmv_forward.proofs.Stable.{holds_stably}
 use Rattle.vmv_need.specs.declared.subject.Scope.{Scope}
 use Rattle.vmv_need.specs.declared.candidate.Candidate.{Candidate}
 use Rattle.vmv_need.specs.Candidates.{candidates_of}
@@ -25,27 +26,6 @@ use Rattle.vmv_need.proofs.Kept.{cut_exists}
 use Rattle.vmv_need.proofs.TableLaws.{bases_avoided}
 use Rattle.vmv_need.proofs.Lower.{lead_keeps_safe, lead_ends_necessary, words_whole}
 use Rattle.vmv_need.proofs.Meeting.{meeting, meeting_fewer}
-
-not_not_le : (x y : ℤ) → ¬ (¬ (x ≤ℤ y)) → x ≤ℤ y
-not_not_le x y h = by (int_le x y) refl
-  where
-    le_of : int_le x y ≡ true → x ≤ℤ y
-    le_of e = grind (arith, ints)
-
-    not_le : int_le x y ≡ false → ¬ (x ≤ℤ y)
-    not_le e g = grind (arith, ints)
-
-    by : (b : Bool) → int_le x y ≡ b → x ≤ℤ y
-    by true e = le_of e
-    by false e = absurd (h (not_le e))
-
--- what can't fail to hold a word holds it
-pub holds_stably : (c : Cond) (w : ℤ) → ¬ (¬ Holds c w) → Holds c w
-holds_stably c w h = record {
-  above = not_not_le c.lo w (λ n. h (λ g. n g.above));
-  below = not_not_le w c.hi (λ n. h (λ g. n g.below));
-  nonzero = λ t e. h (λ g. g.nonzero t e);
-}
 
 module _ (program : Resolution) (scope : Scope) where
   -- one of these acts, or none does

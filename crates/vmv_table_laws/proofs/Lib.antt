@@ -2,3 +2,4 @@ mod States
 mod Steps
 mod Walks
 mod Rows
+mod Matching

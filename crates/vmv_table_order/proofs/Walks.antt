@@ -99,8 +99,7 @@ match_lower : (w : Walk) (less : Assumed) (callee count : ℕ) (args lower : Zon
     IsMatch (under w less) callee lower row
 match_lower w less callee count args lower row params same below m =
     let inputs : vars_of row.input ≡ count = some_same (sym m.over ∙ params) in
-    let over : args.vars ≡ m.input.vars = same ∙ sym (m.norm.vars ∙ inputs) in
-    record { one = m.one; named = m.named; over = m.over; input = m.input; norm = m.norm; above = below_trans lower args m.input over below m.above }
+    record { one = m.one; named = m.named; over = m.over; above = below_trans lower args row.input (same ∙ sym inputs) below m.above }
 
 -- the end of a call with lower arguments, which each row matches that matches the upper ones
 abbrev Called : Walk → ℕ → Slot → ProcId → Zone → Zone → Way → Type 0

@@ -120,9 +120,7 @@ matched_point : (w : Walk) (callee count : ℕ) (args : Zone) (row : Row) (p : �
     (row.input.vars ≡ count) × HasPoint row.input p
 matched_point w callee count args row p vars params m point =
     let same : row.input.vars ≡ count = some_same (sym m.over ∙ params) in
-    let norm : m.input.vars ≡ row.input.vars = m.norm.vars in
-    let here = below_point args m.input p (vars ∙ (sym same ∙ sym norm)) m.above point in
-    (same, below_point m.input row.input p norm m.norm.below here)
+    (same, below_point args row.input p (vars ∙ sym same) m.above point)
 
 -- the call of a helper
 pub call_leads : (w : Walk) (above : List Item) (scope : Scope) (vars n k : ℕ) (to callee : Name) (args : List Operand) (slot : Slot) (proc : ProcId) (codes : List CodeOperand) (z e : Zone) → Setting w above scope vars →
