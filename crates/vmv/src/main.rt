@@ -30,6 +30,9 @@ fn main(rt: HostRuntime) -> ExitCode {
     };
     let mut shelf = FileShelf::new(&rt);
     let mut out = StreamSink::new(rt.stdout());
+    let Ok(mut door) = FaultlessDoor::new(rt.alloc(), Vec::new(rt.alloc())) else {
+        return ExitCode::from(8);
+    };
     let status = run(
         &rt,
         rt.alloc(),
@@ -37,7 +40,7 @@ fn main(rt: HostRuntime) -> ExitCode {
         &mut shelf,
         &mut out,
         &mut FaultlessVault::new(),
-        &mut FaultlessDoor,
+        &mut door,
     );
     ExitCode::from(status)
 }

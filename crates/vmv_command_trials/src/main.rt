@@ -20,6 +20,9 @@ fn main(rt: HostRuntime) -> ExitCode {
     };
     let command = move |words: Vec<String>, devices: Devices| {
         let Devices { mut shelf, mut out } = devices;
+        let Ok(mut door) = FaultlessDoor::new(alloc, Vec::new(alloc)) else {
+            return (out, 8);
+        };
         let status = run(
             &own,
             alloc,
@@ -27,7 +30,7 @@ fn main(rt: HostRuntime) -> ExitCode {
             &mut shelf,
             &mut out,
             &mut FaultlessVault::new(),
-            &mut FaultlessDoor,
+            &mut door,
         );
         (out, status)
     };
