@@ -115,11 +115,7 @@ fn push_all_told(alloc: Global, out: &mut Vec<u8>, held: &[(Name, Cond)]) -> Res
 
 /// Writes necessary conditions: their number, and a line for each that is told. It fails for want of memory alone.
 #[tactic(auto, using(crate::proofs::Writing::writing))]
-pub fn push_held(
-    alloc: Global,
-    out: &mut Vec<u8>,
-    held: &Assumption,
-) -> Result<(), AllocError>
+pub fn push_held(alloc: Global, out: &mut Vec<u8>, held: &Assumption) -> Result<(), AllocError>
     ensures { OnOk result (out.new.items ≡ out.old.items ++ necessary_lines (Some held.now)) }
 {
     push_conditions(alloc, out, b"necessary ", held.conds())
