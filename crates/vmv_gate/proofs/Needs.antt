@@ -21,7 +21,8 @@ use Rattle.vmv_need.specs.declared.needed.Needed.{Needed}
 use Rattle.vmv_need.specs.declared.needed.Needed.TheVariants.{Conditions, Vacuous as IsVacuousNeed}
 use Rattle.vmv_need.specs.Candidates.{IsScopeOf}
 use Rattle.vmv_need.specs.Needed.{IsFound}
-use Rattle.vmv_need.proofs.Existing.{holds_stably, safe_within}
+use Rattle.vmv_forward.proofs.Stable.{holds_stably}
+use Rattle.vmv_need.proofs.Existing.{safe_within}
 use Rattle.vmv_need.proofs.Lower.{words_whole}
 use Rattle.vmv_report.specs.declared.report.Report.{Report}
 use Rattle.vmv_report.specs.Reports.{Tells, IsReport}
