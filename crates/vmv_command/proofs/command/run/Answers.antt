@@ -75,5 +75,5 @@ returns-in-Ok-None-clause-accepted g c b r base revision B R (proof_name, asks) 
     absurd (nothing (recheck b r proof_name) asks)
 
 pub output_of-requires-after_bounds : goal.output_of-requires-after_bounds
-output_of-requires-after_bounds g c =
+output_of-requires-after_bounds g c κs within =
     c.words_ask_for_few_workers.ensures (map (string_bytes {Z = Global}) c.args.words.now) (request_of c.in-Ok-Some.request) (rw c.in-Ok-Some.field-0-is at c.in-Ok-Some.ensures)
