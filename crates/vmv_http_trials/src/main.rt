@@ -23,6 +23,7 @@ struct Trials<'a, R> {
 
 impl<'a, R: Threads + Shared + Sync> Trial for Trials<'a, R> {
     fn answer(&self, alloc: Global, case: &Case, ask: &[u8], sheet: &mut Sheet) {
+        self.rt.shared();
         ask::answer(self.rt, alloc, case, ask, sheet);
     }
 }
