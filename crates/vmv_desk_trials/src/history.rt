@@ -6,10 +6,8 @@ use crate::repeats::{Setting, put_turn, repeat};
 use crate::replies::put_reply;
 use crate::rows::put_rows;
 use std::alloc::Global;
-use std::thread::Threads;
 use vmv_cases::{Case, Sheet, number, tail, word};
 use vmv_desk::{Desk, StartFault};
-use vmv_gate::{Gate, Shared};
 use vmv_keeper::{Command, Judge, MemoryKeeper};
 
 /// The number of a call.
@@ -195,6 +193,6 @@ pub fn list(alloc: Global, case: &Case, sheet: &mut Sheet) {
 }
 
 /// `? gate`: the same by the gate.
-pub fn gated<R: Threads + Shared + Sync>(rt: &R, alloc: Global, case: &Case, sheet: &mut Sheet) {
-    put_list(alloc, case, &Gate::new(rt, 1), sheet);
+pub fn gated<J: Judge>(gate: &J, alloc: Global, case: &Case, sheet: &mut Sheet) {
+    put_list(alloc, case, gate, sheet);
 }

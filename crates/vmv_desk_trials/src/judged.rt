@@ -1,10 +1,8 @@
 use crate::judge::{judge, text_of};
 use crate::replies::{put_fault_of_text, put_number};
 use std::alloc::Global;
-use std::thread::Threads;
 use vmv_cases::{Case, Sheet, word};
 use vmv_edge::Text;
-use vmv_gate::{Gate, Shared};
 use vmv_keeper::{Compared, Inspected, Judge};
 
 fn put_inspected(said: Inspected, sheet: &mut Sheet) {
@@ -69,12 +67,6 @@ pub fn judged(alloc: Global, case: &Case, ask: &[u8], sheet: &mut Sheet) {
 }
 
 /// `? gate_inspect TEXT` and `? gate_compare BASE REVISION`: what the gate says.
-pub fn gated<R: Threads + Shared + Sync>(
-    rt: &R,
-    alloc: Global,
-    case: &Case,
-    ask: &[u8],
-    sheet: &mut Sheet,
-) {
-    ask_judge(&Gate::new(rt, 1), alloc, case, ask, sheet);
+pub fn gated<J: Judge>(gate: &J, alloc: Global, case: &Case, ask: &[u8], sheet: &mut Sheet) {
+    ask_judge(gate, alloc, case, ask, sheet);
 }

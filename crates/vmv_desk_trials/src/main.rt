@@ -18,19 +18,19 @@ mod stores;
 
 use std::alloc::Global;
 use std::process::ExitCode;
-use std::thread::Threads;
 use vmv_cases::{Case, Sheet, Trial, run_cases, word};
-use vmv_crew::Shared;
+use vmv_gate::Gate;
+use vmv_keeper::Judge;
 
 /// What the trials work with.
 #[derive(Drop)]
-struct Trials<'a, R> {
-    rt: &'a R,
+struct Trials<'a, J> {
+    gate: &'a J,
 }
 
 /// Answers an ask about a history. Answers whether it is one.
-fn ask_history<R: Threads + Shared + Sync>(
-    rt: &R,
+fn ask_history<J: Judge>(
+    gate: &J,
     alloc: Global,
     case: &Case,
     ask: &[u8],
@@ -46,7 +46,7 @@ fn ask_history<R: Threads + Shared + Sync>(
     } else if word == b"list".as_slice() {
         history::list(alloc, case, sheet);
     } else if word == b"gate".as_slice() {
-        history::gated(rt, alloc, case, sheet);
+        history::gated(gate, alloc, case, sheet);
     } else {
         return false;
     }
@@ -54,8 +54,8 @@ fn ask_history<R: Threads + Shared + Sync>(
 }
 
 /// Answers an ask about a store or a judge. Answers whether it is one.
-fn ask_store<R: Threads + Shared + Sync>(
-    rt: &R,
+fn ask_store<J: Judge>(
+    gate: &J,
     alloc: Global,
     case: &Case,
     ask: &[u8],
@@ -69,7 +69,7 @@ fn ask_store<R: Threads + Shared + Sync>(
     } else if word == b"inspect".as_slice() || word == b"compare".as_slice() {
         judged::judged(alloc, case, ask, sheet);
     } else if word == b"gate_inspect".as_slice() || word == b"gate_compare".as_slice() {
-        judged::gated(rt, alloc, case, ask, sheet);
+        judged::gated(gate, alloc, case, ask, sheet);
     } else {
         return false;
     }
@@ -95,13 +95,12 @@ fn ask_small(alloc: Global, case: &Case, ask: &[u8], sheet: &mut Sheet) -> bool 
     true
 }
 
-impl<'a, R: Threads + Shared + Sync> Trial for Trials<'a, R> {
+impl<'a, J: Judge> Trial for Trials<'a, J> {
     fn answer(&self, alloc: Global, case: &Case, ask: &[u8], sheet: &mut Sheet) {
-        self.rt.shared();
-        if ask_history(self.rt, alloc, case, ask, sheet) {
+        if ask_history(self.gate, alloc, case, ask, sheet) {
             return;
         }
-        if ask_store(self.rt, alloc, case, ask, sheet) {
+        if ask_store(self.gate, alloc, case, ask, sheet) {
             return;
         }
         if !ask_small(alloc, case, ask, sheet) {
@@ -111,5 +110,6 @@ impl<'a, R: Threads + Shared + Sync> Trial for Trials<'a, R> {
 }
 
 fn main(rt: HostRuntime) -> ExitCode {
-    run_cases(&rt, rt.alloc(), &Trials { rt: &rt })
+    let gate = Gate::new(&rt, 1);
+    run_cases(&rt, rt.alloc(), &Trials { gate: &gate })
 }

@@ -3,9 +3,8 @@ use crate::links::put_whole;
 use crate::requests::with_returns;
 use crate::sessions::{put_gated, put_session};
 use std::alloc::Global;
-use std::thread::Threads;
 use vmv_cases::{Case, Sheet, number, tail, word};
-use vmv_crew::Shared;
+use vmv_keeper::Judge;
 
 /// How many bytes a link reads or writes in a call: the ask's last word, or more than any request has.
 fn most(ask: &[u8]) -> usize {
@@ -27,8 +26,8 @@ fn about(alloc: Global, case: &Case, ask: &[u8], request: &[u8], sheet: &mut She
     }
 }
 
-pub(crate) fn answer<R: Threads + Shared + Sync>(
-    rt: &R,
+pub(crate) fn answer<J: Judge>(
+    gate: &J,
     alloc: Global,
     case: &Case,
     ask: &[u8],
@@ -38,7 +37,7 @@ pub(crate) fn answer<R: Threads + Shared + Sync>(
     if what == b"session".as_slice() {
         put_session(alloc, case, tail(ask, 1), sheet);
     } else if what == b"gate".as_slice() {
-        put_gated(rt, alloc, case, tail(ask, 1), sheet);
+        put_gated(gate, alloc, case, tail(ask, 1), sheet);
     } else if what == b"raw".as_slice() {
         about(alloc, case, ask, case.text(word(ask, 1)), sheet);
     } else {

@@ -11,23 +11,23 @@ mod show;
 
 use std::alloc::Global;
 use std::process::ExitCode;
-use std::thread::Threads;
 use vmv_cases::{Case, Sheet, Trial, run_cases};
-use vmv_crew::Shared;
+use vmv_gate::Gate;
+use vmv_keeper::Judge;
 
 /// What the trials work with.
 #[derive(Drop)]
-struct Trials<'a, R> {
-    rt: &'a R,
+struct Trials<'a, J> {
+    gate: &'a J,
 }
 
-impl<'a, R: Threads + Shared + Sync> Trial for Trials<'a, R> {
+impl<'a, J: Judge> Trial for Trials<'a, J> {
     fn answer(&self, alloc: Global, case: &Case, ask: &[u8], sheet: &mut Sheet) {
-        self.rt.shared();
-        ask::answer(self.rt, alloc, case, ask, sheet);
+        ask::answer(self.gate, alloc, case, ask, sheet);
     }
 }
 
 fn main(rt: HostRuntime) -> ExitCode {
-    run_cases(&rt, rt.alloc(), &Trials { rt: &rt })
+    let gate = Gate::new(&rt, 1);
+    run_cases(&rt, rt.alloc(), &Trials { gate: &gate })
 }

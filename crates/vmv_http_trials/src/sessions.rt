@@ -3,11 +3,8 @@ use crate::links::{desk, serve};
 use crate::requests::put_request;
 use crate::show::body;
 use std::alloc::Global;
-use std::thread::Threads;
 use vmv_cases::{Case, Sheet, number};
-use vmv_crew::Shared;
 use vmv_desk::Desk;
-use vmv_gate::Gate;
 use vmv_http::Served;
 use vmv_keeper::{Judge, MemoryKeeper};
 
@@ -69,12 +66,12 @@ pub(crate) fn put_session(alloc: Global, case: &Case, line: &[u8], sheet: &mut S
 }
 
 /// `? gate CALL ..`: the answers by the gate.
-pub(crate) fn put_gated<R: Threads + Shared + Sync>(
-    rt: &R,
+pub(crate) fn put_gated<J: Judge>(
+    gate: &J,
     alloc: Global,
     case: &Case,
     line: &[u8],
     sheet: &mut Sheet,
 ) {
-    put_turns(alloc, case, &Gate::new(rt, 1), line, sheet);
+    put_turns(alloc, case, gate, line, sheet);
 }
