@@ -20,7 +20,7 @@ given_few _ _ (a_joined_count number k rest g is free more) n e =
 given_few _ _ (a_flag rest g free more) n e = given_few rest g more n e
 given_few _ _ (an_end rest) n e = absurd cc
 
-workers_few : (o : Option ℕ) (n : ℕ) → AreFew o → IsWorkers o n → IsFew n
+pub workers_few : (o : Option ℕ) (n : ℕ) → AreFew o → IsWorkers o n → IsFew n
 workers_few None n few is = subst IsFew (sym is) (omega arith, omega arith)
 workers_few (Some k) n few is = few n (ap Some (sym is))
 
