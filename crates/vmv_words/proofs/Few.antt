@@ -1,5 +1,5 @@
 -- Words ask for 1 to 64 workers.
-use Rattle.std.proofs.Common.{List, Option, Some, None, [], ◌∷◌, ◌≡◌, ◌≤◌, ap, arith, sym, subst, ℕ}
+use Rattle.std.proofs.Common.{List, Option, Some, None, ◌≡◌, ◌≤◌, ap, arith, sym, subst, ℕ}
 use Rattle.vmv_words.specs.Words.{Word, Given, Gives, nothing, a_name, a_count, a_joined_count, a_flag, an_end, Request, review, baseline, recheck, replay, sample, IsWorkers, IsFor, Asks, workers_of}
 
 abbrev pub IsFew : ℕ → Type 0

@@ -1,5 +1,5 @@
 -- Words ask for one service at most, for none beside another thing, and for 1 to 64 workers.
-use Rattle.std.proofs.Common.{refl, true, List, Option, Some, None, [], ◌∷◌, ◌≡◌, ◌≤◌, ◌∙◌, sym, subst, ℕ, codes}
+use Rattle.std.proofs.Common.{refl, List, [], ◌∷◌, ◌≡◌, ◌∙◌, sym, subst, ℕ, codes}
 use Rattle.vmv_words.specs.Words.{Word, Given, Gives, Request, review, baseline, recheck, replay, sample, IsFor, Asks}
 use Rattle.vmv_words.specs.Services.{Service, service, service_workers, IsConnections, IsServiceFor, AsksService}
 use Rattle.vmv_words.proofs.Few.{IsFew, given_few, workers_few}
