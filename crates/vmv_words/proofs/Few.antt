@@ -1,5 +1,5 @@
 -- Words ask for 1 to 64 workers.
-use Rattle.std.proofs.Common.{List, Option, Some, None, [], ◌∷◌, ◌≡◌, ◌≤◌, ap, arith, sym, subst, ℕ}
+use Rattle.std.proofs.Common.{List, Option, Some, None, ◌≡◌, ◌≤◌, ap, arith, sym, subst, ℕ}
 use Rattle.vmv_words.specs.Words.{Word, Given, Gives, nothing, a_name, a_count, a_joined_count, a_flag, an_end, Request, review, baseline, recheck, replay, sample, IsWorkers, IsFor, Asks, workers_of}
 
 abbrev pub IsFew : ℕ → Type 0
@@ -20,7 +20,7 @@ given_few _ _ (a_joined_count number k rest g is free more) n e =
 given_few _ _ (a_flag rest g free more) n e = given_few rest g more n e
 given_few _ _ (an_end rest) n e = absurd cc
 
-workers_few : (o : Option ℕ) (n : ℕ) → AreFew o → IsWorkers o n → IsFew n
+pub workers_few : (o : Option ℕ) (n : ℕ) → AreFew o → IsWorkers o n → IsFew n
 workers_few None n few is = subst IsFew (sym is) (omega arith, omega arith)
 workers_few (Some k) n few is = few n (ap Some (sym is))
 

@@ -4,6 +4,7 @@ pub mod Few
 pub mod Just
 pub mod Looks
 pub mod Once
+pub mod OneService
 pub mod Parsed
 pub mod Rows
 pub mod Sound

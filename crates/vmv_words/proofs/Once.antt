@@ -20,10 +20,10 @@ gives_once words g h a b =
 differ : (a b : Word) → bytes_eq a b ≡ false → a ≡ b → ⊥
 differ a b off e = let on : bytes_eq a b ≡ true = (bytes_eq-Decides a b).1 e in false≢true (sym off ∙ on)
 
-no_command : (command a b : Word) → bytes_eq a b ≡ false → command ≡ a → command ≡ b → ⊥
+pub no_command : (command a b : Word) → bytes_eq a b ≡ false → command ≡ a → command ≡ b → ⊥
 no_command command a b off e f = differ a b off (sym e ∙ f)
 
-workers_once : (o : Option ℕ) (n m : ℕ) → IsWorkers o n → IsWorkers o m → n ≡ m
+pub workers_once : (o : Option ℕ) (n m : ℕ) → IsWorkers o n → IsWorkers o m → n ≡ m
 workers_once None n m a b = a ∙ sym b
 workers_once (Some k) n m a b = a ∙ sym b
 

@@ -1,3 +1,4 @@
 pub mod Clap
 pub mod Requests
+pub mod Services
 pub mod Words

@@ -6,6 +6,11 @@ mod given;
 mod laws;
 mod matches;
 mod request;
+mod service;
 
-pub use laws::{words_ask_for_few_workers, words_ask_for_one_thing};
+pub use laws::{
+    services_are_done_by_few_workers, words_ask_for_few_workers, words_ask_for_no_service_beside,
+    words_ask_for_one_service, words_ask_for_one_thing,
+};
 pub use request::{Request, read_words};
+pub use service::{Service, read_service};
