@@ -1,13 +1,17 @@
 -- Temporaries: the variables that lowering adds. Temporary k is named `__k`, and k is 1 or more.
-use Rattle.std.specs.Prelude.{ℕ, ◌&&◌, Bool, not, List, [], ◌∷◌, ◌++◌, codes, take, if◌then◌else◌}
-use Rattle.std.specs.Fmt.{decimal}
+use Rattle.std.specs.Prelude.{ℕ, ◌+◌, ◌&&◌, Bool, false, not, List, [], ◌∷◌, ◌++◌, codes, take, if◌then◌else◌}
+use Rattle.std.specs.Fmt.{digits_onto}
 use Rattle.std.specs.List.{list_any}
 use Rattle.std.specs.Str.{bytes_eq}
 use Rattle.vmv_tree.specs.declared.name.Name.{Name}
 use Rattle.vmv_tree.specs.Tree.{Stmt, copy, compute, call, assert, choose, repeat, Block, [], ◌⨾◌}
 
+-- the decimal digits of a number, which are at most one more than it says, all of them
+abbrev pub numeral : ℕ → List ℕ
+numeral k = digits_onto (k + 1) 10 false k []
+
 abbrev pub temporary : ℕ → Name
-temporary k = codes "__" ++ decimal k
+temporary k = codes "__" ++ numeral k
 
 abbrev pub is_temporary : Name → Bool
 is_temporary name = bytes_eq (take 2 name) (codes "__")

@@ -1,0 +1,5 @@
+pub mod Same
+pub mod Names
+pub mod Rows
+pub mod Valuations
+pub mod Expressions
