@@ -3,3 +3,4 @@ pub mod Names
 pub mod Rows
 pub mod Valuations
 pub mod Expressions
+pub mod Tests
