@@ -4,3 +4,4 @@ pub mod Rows
 pub mod Valuations
 pub mod Expressions
 pub mod Tests
+pub mod Statements
