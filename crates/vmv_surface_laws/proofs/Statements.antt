@@ -253,3 +253,75 @@ module _ (calls : Calls) (proc : Name) where
   when_same (negated part) k j v w taken block is plain agree f = chosen_same (negated part) k j v w taken (Only (next v)) block [] is plain agree f (λ i u e a. nothing_more i v u a)
   when_same (either first second) k j v w taken block is plain agree f =
       chosen_same (either first second) k j v w taken (Only (next v)) block [] is plain agree f (λ i u e a. nothing_more i v u a)
+
+assigned_sites : (to : Name) (from : Expr) → block_sites (assigned to from) ≡ expr_sites from
+assigned_sites to (literal z) = omega arith
+assigned_sites to (variable y) = omega arith
+assigned_sites to (operate op left right) = computed_sites 0 to (operate op left right)
+assigned_sites to (minus inner) = computed_sites 0 to (minus inner)
+assigned_sites to (ask callee args) = computed_sites 0 to (ask callee args)
+
+mutual
+  pub lower_sites : (s : Stmt) → block_sites (lower s) ≡ stmt_sites s
+  lower_sites (set to from) = assigned_sites to from
+  lower_sites (assert test) = asserted_sites test
+  lower_sites (choose test first no_stmts) = omega (arith, when_sites test (lower_all first), lower_all_sites first)
+  lower_sites (choose test first (row s rest)) =
+      omega (arith, chosen_sites test (lower_all first) (lower_all (row s rest)), lower_all_sites first, lower_all_sites (row s rest))
+  lower_sites (repeat index bound cap body) =
+      omega (arith, joined_sites (lowered 0 bound) (core.repeat index (operand 0 bound) cap (lower_all body) ⨾ []), computed_sites 0 (temporary (0 + 1)) bound, lower_all_sites body)
+
+  pub lower_all_sites : (b : Block) → block_sites (lower_all b) ≡ all_sites b
+  lower_all_sites no_stmts = refl
+  lower_all_sites (row first rest) = omega (arith, joined_sites (lower first) (lower_all rest), lower_sites first, lower_all_sites rest)
+
+module _ (calls : Calls) (proc : Name) where
+  repeats_so : (b : Bool) (k j : ℕ) (one other : May End) → j ≡ k → Same End Alike one other
+      → Same End Alike (λ a e. MatchBool b (Only (stopped (site_at calls proc k)) a e) (one a e)) (λ a e. MatchBool b (Ends a e (stopped (site_at calls proc j))) (other a e))
+  repeats_so true k j one other is s = only_same End Alike (stopped (site_at calls proc k)) (stopped (site_at calls proc j)) (ap (site_at calls proc) (sym is))
+  repeats_so false k j one other is s = s
+
+  mutual
+    pub stmt_same : (s : Stmt) (k j : ℕ) (v w : Valuation) → j ≡ k → StmtHasPlainNames s → Agree v w → Same End Alike (SRuns calls proc k s v) (RunsAll calls proc j (lower s) w)
+    stmt_same (set to from) k j v w is plain agree = set_same calls proc to from k j v w is plain.1 agree
+    stmt_same (assert test) k j v w is plain agree = asserted_same calls proc test k j v w is plain agree
+    stmt_same (choose test first no_stmts) k j v w is plain agree =
+        when_same calls proc test k j v w (SRunsAll calls proc (k + test_sites test) first v) (lower_all first) is plain.0 agree
+        (λ i u e a. all_same first (k + test_sites test) i v u e plain.1 a)
+    stmt_same (choose test first (row s rest)) k j v w is plain agree =
+        let k2 : ℕ = k + test_sites test in
+        let k3 : ℕ = k + test_sites test + all_sites first in
+        chosen_same calls proc test k j v w (SRunsAll calls proc k2 first v) (SRunsAll calls proc k3 (row s rest) v) (lower_all first) (lower_all (row s rest)) is plain.0 agree
+        (λ i u e a. all_same first k2 i v u e plain.1 a)
+        (λ i u e a. all_same (row s rest) k3 i v u (omega (arith, e, lower_all_sites first)) plain.2 a)
+    stmt_same (repeat index bound cap body) k j v w is plain agree =
+        let l : core.Block = lowered 0 bound in
+        let B : core.Block = lower_all body in
+        let again : core.Stmt = core.repeat index (operand 0 bound) cap B in
+        let last : core.Block = again ⨾ [] in
+        let k2 : ℕ = k + expr_sites bound in
+        let j2 : ℕ = j + block_sites l in
+        let is2 : j2 ≡ k2 = omega (arith, is, computed_sites 0 (temporary (0 + 1)) bound) in
+        let go = λ (n : ℤ) (a : Answers) (e : End). MatchBool (int_lt cap n) (Only (stopped (site_at calls proc k2)) a e) (Turns index (SRunsAll calls proc (k2 + 1) body) (turns_of n) 0 v a e) in
+        moved End Alike (SRuns calls proc k (repeat index bound cap body) v) (InARow (RunsAll calls proc j l) (RunsAll calls proc j2 last) w) (RunsAll calls proc j (l ⧺ last) w) (joined calls proc j j2 l last refl w)
+        (row_same ℤ End (Computes 0 (temporary (0 + 1)) bound v w) Alike stopped (λ s. refl) (Evaluates calls proc k bound v) go (RunsAll calls proc j l) (RunsAll calls proc j2 last) w
+        (expr_same calls proc 0 (temporary (0 + 1)) bound k j v w is plain.1 agree)
+        (λ n u c.
+            let agree' = agree_still 0 bound v w n u plain.1 agree c in
+            moved End Alike (go n) (Runs calls proc j2 again u) (RunsAll calls proc j2 last u) (alone calls proc j2 again u)
+            (subst (λ m. Same End Alike (go n) (λ a e. MatchBool (int_lt cap m) (Ends a e (stopped (site_at calls proc j2))) (Turns index (RunsAll calls proc (j2 + 1) B) (turns_of m) 0 u a e)))
+            (sym (operand_worth 0 bound v w n u plain.1 agree c))
+            (repeats_so (int_lt cap n) k2 j2 (Turns index (SRunsAll calls proc (k2 + 1) body) (turns_of n) 0 v) (Turns index (RunsAll calls proc (j2 + 1) B) (turns_of n) 0 u) is2
+            (turns_same index (SRunsAll calls proc (k2 + 1) body) (RunsAll calls proc (j2 + 1) B) (turns_of n) 0 v u
+            (λ x y a. all_same body (k2 + 1) (j2 + 1) x y (omega (arith, is2)) plain.2 a) agree')))))
+
+    pub all_same : (b : Block) (k j : ℕ) (v w : Valuation) → j ≡ k → BlockHasPlainNames b → Agree v w → Same End Alike (SRunsAll calls proc k b v) (RunsAll calls proc j (lower_all b) w)
+    all_same no_stmts k j v w is plain agree = only_same End Alike (next v) (next w) agree
+    all_same (row first rest) k j v w is plain agree =
+        let k2 : ℕ = k + stmt_sites first in
+        let j2 : ℕ = j + block_sites (lower first) in
+        moved End Alike (SRunsAll calls proc k (row first rest) v) (InARow (RunsAll calls proc j (lower first)) (RunsAll calls proc j2 (lower_all rest)) w) (RunsAll calls proc j (lower first ⧺ lower_all rest) w)
+        (joined calls proc j j2 (lower first) (lower_all rest) refl w)
+        (rows_same (SRuns calls proc k first) (SRunsAll calls proc k2 rest) (RunsAll calls proc j (lower first)) (RunsAll calls proc j2 (lower_all rest)) v w
+        (stmt_same first k j v w is plain.0 agree)
+        (λ x y a. all_same rest k2 j2 x y (omega (arith, is, lower_sites first)) plain.1 a))
