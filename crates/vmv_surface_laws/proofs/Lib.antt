@@ -5,3 +5,4 @@ pub mod Valuations
 pub mod Expressions
 pub mod Tests
 pub mod Statements
+pub mod Bodies
