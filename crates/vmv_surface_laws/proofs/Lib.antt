@@ -6,3 +6,4 @@ pub mod Expressions
 pub mod Tests
 pub mod Statements
 pub mod Bodies
+pub mod Programs
