@@ -59,7 +59,7 @@ is_empty (row first rest) = false
 abbrev pub IsPlain : Name → Type 0
 IsPlain name = take 2 name ≡ codes "__" → ⊥
 
--- each name that is read is plain
+-- each variable that is read, set or counted by is plain
 
 abbrev mutual
   pub HasPlainNames : Expr → Type 0

@@ -1,12 +1,11 @@
 -- A body of the surface language has the runs of its lowered body.
 use Rattle.std.proofs.Common.{◌≡◌, inl, inr, ℕ, ◌+◌, ℤ, List, [], ◌++◌, refl, sym, ap, subst, arith, ◌∙◌, append-nil}
 use Rattle.vmv_tree.specs.declared.name.Name.{Name}
-use Rattle.vmv_tree.specs.Tree as core
-use Rattle.vmv_tree.specs.Run.{Valuation, Answers, Site, End, next, End.fail as stopped, Outcome, done, Outcome.fail as ended, InARow, Calls, RunsAll, RunsBody, outcome_of, start, value, block_sites}
+use Rattle.vmv_tree.specs.Run.{Valuation, Answers, Site, End, next, End.fail as stopped, Outcome, done, Outcome.fail as ended, InARow, Calls, RunsAll, RunsBody, outcome_of, start, block_sites}
 use Rattle.vmv_surface.specs.Surface.{Body, Expr, BodyHasPlainNames, HasPlainNames}
 use Rattle.vmv_surface.specs.Runs.{Got, gives, fails, got_of, all_sites, Evaluates, SRunsAll, SRunsBody, Returns}
 use Rattle.vmv_surface.specs.Temporaries.{temporary}
-use Rattle.vmv_surface.specs.Lower.{◌⧺◌, operand, lowered, lower_all, lower_body, whole_block}
+use Rattle.vmv_surface.specs.Lower.{operand, lowered, lower_all, lower_body, whole_block}
 use Rattle.vmv_surface_laws.proofs.Same.{Same, Ended, Both}
 use Rattle.vmv_surface_laws.proofs.Rows.{joined}
 use Rattle.vmv_surface_laws.proofs.Valuations.{Agree, Computes, operand_worth}
@@ -31,9 +30,9 @@ module _ (output : Expr) (plain : HasPlainNames output) (v w : Valuation) (agree
   got_is o (fails s) (stopped t) c is = ap fails c ∙ sym (ap got_of is)
 
 module _ (calls : Calls) (proc : Name) (params : List Name) (body : Body) (words : List ℤ) (plain : BodyHasPlainNames body) where
-
   abbrev ks : ℕ
   ks = all_sites body.block
+
   abbrev js : ℕ
   js = block_sites (lower_all body.block)
 

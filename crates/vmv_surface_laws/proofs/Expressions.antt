@@ -1,22 +1,22 @@
 -- An expression is evaluated as its lowered statements compute it.
-use Rattle.std.proofs.Common.{◌≡◌, inl, inr, ℕ, ◌+◌, ℤ, pos, List, [], ◌∷◌, ◌++◌, map, refl, sym, ap, subst, arith, ◌∙◌}
+use Rattle.std.proofs.Common.{◌≡◌, ℕ, ◌+◌, ℤ, pos, List, [], ◌∷◌, map, refl, sym, ap, subst, arith, ◌∙◌}
 use Rattle.std.specs.Prelude.{Option, Some, None}
 use Rattle.vmv_tree.specs.declared.name.Name.{Name}
 use Rattle.vmv_tree.specs.declared.tree.Operand.{Operand}
-use Rattle.vmv_tree.specs.declared.tree.Operand.TheVariants.{Lit, Var}
+use Rattle.vmv_tree.specs.declared.tree.Operand.TheVariants.{Lit}
 use Rattle.vmv_tree.specs.declared.tree.Op.{Op}
 use Rattle.vmv_tree.specs.declared.tree.Op.TheVariants.{Sub}
 use Rattle.vmv_tree.specs.Words.{result_of}
 use Rattle.vmv_tree.specs.Tree as core
 use Rattle.vmv_tree.specs.Tree.{[], ◌⨾◌}
-use Rattle.vmv_tree.specs.Run.{Valuation, Answers, Site, End, next, End.fail as stopped, Outcome, done, Outcome.fail as ended, Does, Ends, InARow, Calls, Runs, RunsAll, assign, value, set_or_fail, set_to_outcome, sites, block_sites}
+use Rattle.vmv_tree.specs.Run.{Valuation, Site, next, Outcome, done, Outcome.fail as ended, Does, Ends, InARow, Calls, Runs, RunsAll, assign, value, set_or_fail, set_to_outcome, block_sites}
 use Rattle.vmv_surface.specs.Surface.{Expr, literal, variable, operate, minus, ask, Args, no_args, arg, HasPlainNames, ArgsHavePlainNames}
 use Rattle.vmv_surface.specs.Runs.{Got, gives, fails, May, Only, Then, word_or_failure, got_of, expr_sites, args_sites, Evaluates, EvaluatesAll}
 use Rattle.vmv_surface.specs.Temporaries.{temporary}
-use Rattle.vmv_surface.specs.Lower.{◌⧺◌, behind, operand, operands, computed, all_computed, lowered}
-use Rattle.vmv_surface_laws.proofs.Same.{Same, Ended, only_same, row_same, Both, moved}
+use Rattle.vmv_surface.specs.Lower.{◌⧺◌, behind, operand, operands, computed, all_computed}
+use Rattle.vmv_surface_laws.proofs.Same.{Same, Ended, only_same, row_same, moved}
 use Rattle.vmv_surface_laws.proofs.Rows.{joined, alone, bare, joined_sites}
-use Rattle.vmv_surface_laws.proofs.Valuations.{Agree, IsBelow, Keeps, Worth, Computes, assign_here, assign_past, still, agree_still, operand_worth, operand_still, behind_above, below_above, plain_below}
+use Rattle.vmv_surface_laws.proofs.Valuations.{Agree, IsBelow, Keeps, Computes, assign_here, assign_past, still, agree_still, operand_worth, operand_still, behind_above, below_above}
 
 -- statements have the sites of the expression that they compute
 mutual
@@ -25,10 +25,13 @@ mutual
   computed_sites d to (variable x) = refl
   computed_sites d to (operate op left right) =
       let last : core.Block = core.compute to op (operand d left) (operand (behind d left) right) ⨾ [] in
-      omega (arith,
+      omega (
+        arith,
         joined_sites (computed d (temporary (d + 1)) left) (computed (behind d left) (temporary (behind d left + 1)) right ⧺ last),
         joined_sites (computed (behind d left) (temporary (behind d left + 1)) right) last,
-        computed_sites d (temporary (d + 1)) left, computed_sites (behind d left) (temporary (behind d left + 1)) right)
+        computed_sites d (temporary (d + 1)) left,
+        computed_sites (behind d left) (temporary (behind d left + 1)) right,
+      )
   computed_sites d to (minus inner) =
       let last : core.Block = core.compute to Sub (Lit (pos 0)) (operand d inner) ⨾ [] in
       omega (arith, joined_sites (computed d (temporary (d + 1)) inner) last, computed_sites d (temporary (d + 1)) inner)
@@ -121,20 +124,20 @@ module _ (calls : Calls) (proc : Name) where
         (row_same ℤ (Got ℤ) (Computes d (temporary (d + 1)) left v w) (Ended ℤ A) fails (λ s. refl) (Evaluates calls proc k left v) (λ x. Then fails (Evaluates calls proc k2 right v) (go x))
         (RunsAll calls proc j l) (RunsAll calls proc j2 (r ⧺ last)) w (expr_same d (temporary (d + 1)) left k j v w is plain.0 agree)
         (λ x u c.
-            let agree' = agree_still d left v w x u plain.0 agree c in
-            moved (Got ℤ) (Ended ℤ A) (Then fails (Evaluates calls proc k2 right v) (go x)) (InARow (RunsAll calls proc j2 r) (RunsAll calls proc j3 last) u) (RunsAll calls proc j2 (r ⧺ last) u)
-            (joined calls proc j2 j3 r last refl u)
-            (row_same ℤ (Got ℤ) (Computes dr (temporary (dr + 1)) right v u) (Ended ℤ A) fails (λ s. refl) (Evaluates calls proc k2 right v) (go x)
-            (RunsAll calls proc j2 r) (RunsAll calls proc j3 last) u (expr_same dr (temporary (dr + 1)) right k2 j2 v u is2 plain.1 agree')
-            (λ y z c'.
-                let later = still dr right v u y z plain.1 agree' c' in
-                compute_same calls proc A to op (operand d left) (operand dr right) z k3 j3 x y is3
-                (operand_still d left u z plain.0 later ∙ operand_worth d left v w x u plain.0 agree c)
-                (operand_worth dr right v u y z plain.1 agree' c')
-                (λ word. record {
-                  kept = set_to d to w z word (λ name below. later name (below_above d dr name (behind_above d left) below) ∙ still d left v w x u plain.0 agree c name below);
-                  worth = assign_here z to word;
-                })))))
+        let agree' = agree_still d left v w x u plain.0 agree c in
+        moved (Got ℤ) (Ended ℤ A) (Then fails (Evaluates calls proc k2 right v) (go x)) (InARow (RunsAll calls proc j2 r) (RunsAll calls proc j3 last) u) (RunsAll calls proc j2 (r ⧺ last) u)
+        (joined calls proc j2 j3 r last refl u)
+        (row_same ℤ (Got ℤ) (Computes dr (temporary (dr + 1)) right v u) (Ended ℤ A) fails (λ s. refl) (Evaluates calls proc k2 right v) (go x)
+        (RunsAll calls proc j2 r) (RunsAll calls proc j3 last) u (expr_same dr (temporary (dr + 1)) right k2 j2 v u is2 plain.1 agree')
+        (λ y z c'.
+        let later = still dr right v u y z plain.1 agree' c' in
+        compute_same calls proc A to op (operand d left) (operand dr right) z k3 j3 x y is3
+        (operand_still d left u z plain.0 later ∙ operand_worth d left v w x u plain.0 agree c)
+        (operand_worth dr right v u y z plain.1 agree' c')
+        (λ word. record {
+          kept = set_to d to w z word (λ name below. later name (below_above d dr name (behind_above d left) below) ∙ still d left v w x u plain.0 agree c name below);
+          worth = assign_here z to word;
+        })))))
     expr_same d to (minus inner) k j v w is plain agree =
         let l : core.Block = computed d (temporary (d + 1)) inner in
         let last : core.Block = core.compute to Sub (Lit (pos 0)) (operand d inner) ⨾ [] in
@@ -148,8 +151,8 @@ module _ (calls : Calls) (proc : Name) where
         (λ y. Only (word_or_failure (record { proc = proc; number = k2 + 1 }) (result_of Sub (pos 0) y)))
         (RunsAll calls proc j l) (RunsAll calls proc j2 last) w (expr_same d (temporary (d + 1)) inner k j v w is plain agree)
         (λ y u c.
-            compute_same calls proc A to Sub (Lit (pos 0)) (operand d inner) u k2 j2 (pos 0) y is2 refl (operand_worth d inner v w y u plain agree c)
-            (λ word. record { kept = set_to d to w u word (still d inner v w y u plain agree c); worth = assign_here u to word })))
+        compute_same calls proc A to Sub (Lit (pos 0)) (operand d inner) u k2 j2 (pos 0) y is2 refl (operand_worth d inner v w y u plain agree c)
+        (λ word. record { kept = set_to d to w u word (still d inner v w y u plain agree c); worth = assign_here u to word })))
     expr_same d to (ask callee args) k j v w is plain agree =
         let l : core.Block = all_computed d args in
         let last : core.Block = core.call to callee (operands d args) ⨾ [] in
@@ -180,10 +183,10 @@ module _ (calls : Calls) (proc : Name) where
         (row_same ℤ (Got (List ℤ)) (Computes d (temporary (d + 1)) first v w) (Ended (List ℤ) A) fails (λ s. refl) (Evaluates calls proc k first v) go
         (RunsAll calls proc j l) (RunsAll calls proc j2 r) w (expr_same d (temporary (d + 1)) first k j v w is plain.0 agree)
         (λ x u c.
-            let agree' = agree_still d first v w x u plain.0 agree c in
-            mapped_same (List ℤ) (List ℤ) (ComputesAll dr rest u) A (λ words. x ∷ words) (EvaluatesAll calls proc k2 rest v) (RunsAll calls proc j2 r) u
-            (λ words z c'. record {
-              kept = λ name below. c'.kept name (below_above d dr name (behind_above d first) below) ∙ still d first v w x u plain.0 agree c name below;
-              worth = λ i. (operand_still d first u z plain.0 c'.kept ∙ operand_worth d first v w x u plain.0 agree c) i ∷ c'.worth i;
-            })
-            (args_same dr rest k2 j2 v u is2 plain.1 agree')))
+        let agree' = agree_still d first v w x u plain.0 agree c in
+        mapped_same (List ℤ) (List ℤ) (ComputesAll dr rest u) A (λ words. x ∷ words) (EvaluatesAll calls proc k2 rest v) (RunsAll calls proc j2 r) u
+        (λ words z c'. record {
+          kept = λ name below. c'.kept name (below_above d dr name (behind_above d first) below) ∙ still d first v w x u plain.0 agree c name below;
+          worth = λ i. (operand_still d first u z plain.0 c'.kept ∙ operand_worth d first v w x u plain.0 agree c) i ∷ c'.worth i;
+        })
+        (args_same dr rest k2 j2 v u is2 plain.1 agree')))

@@ -8,8 +8,8 @@ use Rattle.vmv_tree.specs.declared.name.Name.{Name}
 use Rattle.vmv_tree.specs.Tree as core
 use Rattle.vmv_tree.specs.Tree.{Stmt, copy, compute, call, assert, choose, repeat, Block, [], ◌⨾◌}
 use Rattle.vmv_tree.specs.Run.{Valuation, Answers, End, End.fail as stopped, Ends, holds, value, turns_of, Outcome, Does, InARow, Turns, Calls, Runs, RunsAll, RunsBody, RunsItem, RunsAbove, Run, assign, sites, block_sites}
-use Rattle.vmv_surface.specs.Surface.{Body, Item, outside, helper, entry, BodyHasPlainNames, ProgramHasPlainNames}
-use Rattle.vmv_surface.specs.Runs.{SRunsBody, SRunsItem, SRunsAbove, SRun, name_of}
+use Rattle.vmv_surface.specs.Surface.{Item, outside, helper, entry, BodyHasPlainNames, ProgramHasPlainNames}
+use Rattle.vmv_surface.specs.Runs.{SRunsItem, SRunsAbove, SRun, name_of}
 use Rattle.vmv_surface.specs.Lower.{lower_body, lower_item, Lower}
 use Rattle.vmv_surface_laws.proofs.Bodies.{body_to, body_from}
 

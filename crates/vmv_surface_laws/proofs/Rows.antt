@@ -1,5 +1,5 @@
 -- Core statements in a row: blocks that are joined, and a statement alone.
-use Rattle.std.proofs.Common.{◌≡◌, inl, inr, ℕ, ◌+◌, List, [], ◌++◌, refl, sym, ap, subst, arith, ◌∙◌, append-nil, append_assoc}
+use Rattle.std.proofs.Common.{◌≡◌, inl, inr, ℕ, ◌+◌, [], ◌++◌, refl, sym, ap, subst, arith, ◌∙◌, append-nil, append_assoc}
 use Rattle.vmv_tree.specs.declared.name.Name.{Name}
 use Rattle.vmv_tree.specs.Tree.{Stmt, Block, [], ◌⨾◌}
 use Rattle.vmv_tree.specs.Run.{Valuation, Answers, End, next, End.fail as stopped, Does, Ends, IsFail, InARow, Calls, Runs, RunsAll, sites, block_sites}

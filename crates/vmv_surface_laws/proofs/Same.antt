@@ -1,7 +1,6 @@
 -- Two ways of doing the same: what an evaluation of a surface program may do, and what core statements may do.
-use Rattle.std.proofs.Common.{◌≡◌, inl, inr, ℕ, ◌+◌, ℤ, Bool, true, false, MatchBool, List, [], ◌++◌, refl, sym, ap, subst, ◌∙◌}
-use Rattle.std.specs.Bool.{⊤}
-use Rattle.vmv_tree.specs.Run.{Valuation, Answers, Site, End, next, End.fail as stopped, Does, Ends, IsFail, InARow}
+use Rattle.std.proofs.Common.{◌≡◌, inl, inr, ◌++◌, refl, sym, subst}
+use Rattle.vmv_tree.specs.Run.{Valuation, Answers, Site, End, next, End.fail as stopped, Does, IsFail, InARow}
 use Rattle.vmv_surface.specs.Runs.{Got, gives, fails, May, Only, Then}
 
 -- each end of the one has an end of the other that is like it, with the same answers, and the other way round
@@ -25,7 +24,6 @@ only_same R like r e h = record {
 module _ (A R : Type 0) (post : A → Valuation → Type 0) (like : R → End → Type 0) (failed : Site → R) (on_fail : (s : Site) → like (failed s) (stopped s))
     (first : May (Got A)) (second : A → May R) (one other : Does) (v : Valuation)
     (f : Same (Got A) (Ended A post) first (one v)) (g : (a : A) (w : Valuation) → post a w → Same R like (second a) (other w)) where
-
   there_failed : (a : Answers) (s : Site) (r : R) → r ≡ failed s → (e : End) → one v a e → Ended A post (fails s) e → (e : End) × InARow one other v a e × like r e
   there_failed a s r is (next w) h k = absurd k
   there_failed a s r is (stopped t) h k = (stopped t, inl (h, tt), subst (λ x. like x (stopped t)) (sym is) (subst (λ x. like (failed s) (stopped x)) k (on_fail s)))

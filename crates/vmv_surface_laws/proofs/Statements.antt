@@ -1,24 +1,23 @@
 -- A statement of the surface language does what its lowered statements do.
-use Rattle.std.proofs.Common.{◌≡◌, inl, inr, ℕ, zero, suc, ◌+◌, ℤ, pos, Bool, true, false, MatchBool, List, [], ◌++◌, refl, sym, ap, subst, arith, ◌∙◌, append-nil, append_assoc}
+use Rattle.std.proofs.Common.{◌≡◌, inl, inr, ℕ, zero, suc, ◌+◌, ℤ, pos, Bool, true, false, MatchBool, [], ◌++◌, refl, sym, ap, subst, arith, ◌∙◌, append-nil, append_assoc}
 use Rattle.std.specs.Prelude.{int_lt, if◌then◌else◌}
 use Rattle.std.specs.Str.{bytes_eq}
 use Rattle.std.proofs.lemmas.Slice.Eq.{bytes_eq-Decides}
 use Rattle.vmv_tree.specs.declared.name.Name.{Name}
 use Rattle.vmv_tree.specs.declared.tree.Operand.{Operand}
 use Rattle.vmv_tree.specs.declared.tree.Operand.TheVariants.{Lit, Var}
-use Rattle.vmv_tree.specs.declared.tree.Test.{Test as CoreTest}
 use Rattle.vmv_tree.specs.Tree as core
 use Rattle.vmv_tree.specs.Tree.{[], ◌⨾◌}
-use Rattle.vmv_tree.specs.Run.{Valuation, Answers, Site, End, next, End.fail as stopped, Does, Ends, IsFail, InARow, Turns, turns_of, Calls, Runs, RunsAll, assign, value, holds, sites, block_sites}
-use Rattle.vmv_surface.specs.Surface.{Expr, literal, variable, operate, minus, ask, Test, compared, negated, both, either, Stmt, set, assert, choose, repeat, Block, no_stmts, row, HasPlainNames, TestHasPlainNames, StmtHasPlainNames, BlockHasPlainNames, IsPlain}
+use Rattle.vmv_tree.specs.Run.{Valuation, Answers, Site, End, next, End.fail as stopped, Does, Ends, IsFail, InARow, Turns, turns_of, Calls, Runs, RunsAll, assign, value, block_sites}
+use Rattle.vmv_surface.specs.Surface.{Expr, literal, variable, operate, minus, ask, Test, compared, negated, both, either, Stmt, set, assert, choose, repeat, Block, no_stmts, row, HasPlainNames, TestHasPlainNames, StmtHasPlainNames, BlockHasPlainNames}
 use Rattle.vmv_surface.specs.Runs.{Got, gives, fails, May, Only, Then, expr_sites, test_sites, assert_sites, stmt_sites, all_sites, Evaluates, Decides, Passes, Asserts, SRuns, SRunsAll}
 use Rattle.vmv_surface.specs.Temporaries.{temporary}
 use Rattle.vmv_surface.specs.Lower.{◌⧺◌, operand, computed, lowered, assigned, before, standing, asserted, chosen, when, lower, lower_all}
-use Rattle.vmv_surface_laws.proofs.Same.{Same, Ended, only_same, row_same, Both, moved}
+use Rattle.vmv_surface_laws.proofs.Same.{Same, Ended, only_same, row_same, moved}
 use Rattle.vmv_surface_laws.proofs.Rows.{joined, alone, bare, joined_sites}
-use Rattle.vmv_surface_laws.proofs.Valuations.{Agree, IsBelow, Computes, assign_here, assign_past, still, agree_still, operand_worth, plain_below}
+use Rattle.vmv_surface_laws.proofs.Valuations.{Agree, IsBelow, Computes, agree_still, operand_worth, plain_below}
 use Rattle.vmv_surface_laws.proofs.Expressions.{computed_sites, expr_same}
-use Rattle.vmv_surface_laws.proofs.Tests.{ev_moved, weaker, Stands, before_sites, before_same, choose_same}
+use Rattle.vmv_surface_laws.proofs.Tests.{ev_moved, Stands, before_sites, before_same, choose_same}
 
 -- both go on, from valuations that agree, or both fail at one site
 abbrev pub Alike : End → End → Type 0
@@ -198,7 +197,7 @@ module _ (calls : Calls) (proc : Name) where
       (row_same Bool End (Stands 0 test v) Alike stopped (λ s. refl) (Decides calls proc k test v) go (RunsAll calls proc j l) (RunsAll calls proc j2 last) w
       (before_same calls proc 0 test k j v w is plain agree)
       (λ b u c. moved End Alike (go b) (Runs calls proc j2 (core.assert (standing 0 test)) u) (RunsAll calls proc j2 last u) (alone calls proc j2 (core.assert (standing 0 test)) u)
-          (subst (λ t. Same End Alike (go b) (λ a e. Ends a e (if t then next u else stopped (site_at j2)))) (sym c.decided) (asserts_so b k2 j2 v u is2 c.agree))))
+      (subst (λ t. Same End Alike (go b) (λ a e. Ends a e (if t then next u else stopped (site_at j2)))) (sym c.decided) (asserts_so b k2 j2 v u is2 c.agree))))
 
   asserted_same : (test : Test) (k j : ℕ) (v w : Valuation) → j ≡ k → TestHasPlainNames test → Agree v w → Same End Alike (Asserts calls proc k test v) (RunsAll calls proc j (asserted test) w)
   asserted_same (both first second) k j v w is plain agree =
@@ -232,7 +231,7 @@ module _ (calls : Calls) (proc : Name) where
       (row_same Bool End (Stands 0 test v) Alike stopped (λ s. refl) (Decides calls proc k test v) go (RunsAll calls proc j l) (RunsAll calls proc j2 last) w
       (before_same calls proc 0 test k j v w is plain agree)
       (λ b u c. choose_same calls proc End Alike (go b) b j2 (standing 0 test) first second u c.decided
-          (one_way b taken left_out j2 (j2 + block_sites first) first second u (f j2 u is2 c.agree) (g (j2 + block_sites first) u (omega (arith, is2)) c.agree))))
+      (one_way b taken left_out j2 (j2 + block_sites first) first second u (f j2 u is2 c.agree) (g (j2 + block_sites first) u (omega (arith, is2)) c.agree))))
 
   nothing_more : (i : ℕ) (v u : Valuation) → Agree v u → Same End Alike (Only (next v)) (RunsAll calls proc i [] u)
   nothing_more i v u agree = only_same End Alike (next v) (next u) agree
@@ -307,13 +306,13 @@ module _ (calls : Calls) (proc : Name) where
         (row_same ℤ End (Computes 0 (temporary (0 + 1)) bound v w) Alike stopped (λ s. refl) (Evaluates calls proc k bound v) go (RunsAll calls proc j l) (RunsAll calls proc j2 last) w
         (expr_same calls proc 0 (temporary (0 + 1)) bound k j v w is plain.1 agree)
         (λ n u c.
-            let agree' = agree_still 0 bound v w n u plain.1 agree c in
-            moved End Alike (go n) (Runs calls proc j2 again u) (RunsAll calls proc j2 last u) (alone calls proc j2 again u)
-            (subst (λ m. Same End Alike (go n) (λ a e. MatchBool (int_lt cap m) (Ends a e (stopped (site_at calls proc j2))) (Turns index (RunsAll calls proc (j2 + 1) B) (turns_of m) 0 u a e)))
-            (sym (operand_worth 0 bound v w n u plain.1 agree c))
-            (repeats_so (int_lt cap n) k2 j2 (Turns index (SRunsAll calls proc (k2 + 1) body) (turns_of n) 0 v) (Turns index (RunsAll calls proc (j2 + 1) B) (turns_of n) 0 u) is2
-            (turns_same index (SRunsAll calls proc (k2 + 1) body) (RunsAll calls proc (j2 + 1) B) (turns_of n) 0 v u
-            (λ x y a. all_same body (k2 + 1) (j2 + 1) x y (omega (arith, is2)) plain.2 a) agree')))))
+        let agree' = agree_still 0 bound v w n u plain.1 agree c in
+        moved End Alike (go n) (Runs calls proc j2 again u) (RunsAll calls proc j2 last u) (alone calls proc j2 again u)
+        (subst (λ m. Same End Alike (go n) (λ a e. MatchBool (int_lt cap m) (Ends a e (stopped (site_at calls proc j2))) (Turns index (RunsAll calls proc (j2 + 1) B) (turns_of m) 0 u a e)))
+        (sym (operand_worth 0 bound v w n u plain.1 agree c))
+        (repeats_so (int_lt cap n) k2 j2 (Turns index (SRunsAll calls proc (k2 + 1) body) (turns_of n) 0 v) (Turns index (RunsAll calls proc (j2 + 1) B) (turns_of n) 0 u) is2
+        (turns_same index (SRunsAll calls proc (k2 + 1) body) (RunsAll calls proc (j2 + 1) B) (turns_of n) 0 v u
+        (λ x y a. all_same body (k2 + 1) (j2 + 1) x y (omega (arith, is2)) plain.2 a) agree')))))
 
     pub all_same : (b : Block) (k j : ℕ) (v w : Valuation) → j ≡ k → BlockHasPlainNames b → Agree v w → Same End Alike (SRunsAll calls proc k b v) (RunsAll calls proc j (lower_all b) w)
     all_same no_stmts k j v w is plain agree = only_same End Alike (next v) (next w) agree

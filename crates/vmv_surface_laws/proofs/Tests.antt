@@ -1,18 +1,18 @@
 -- A test is decided as its lowered statements decide it.
-use Rattle.std.proofs.Common.{◌≡◌, inl, inr, ℕ, ◌+◌, ℤ, pos, Bool, true, false, MatchBool, List, [], ◌++◌, refl, sym, ap, subst, arith, ◌∙◌, append-nil}
+use Rattle.std.proofs.Common.{◌≡◌, inl, inr, ℕ, ◌+◌, ℤ, pos, Bool, true, false, MatchBool, [], ◌++◌, refl, sym, ap, subst, arith, ◌∙◌, append-nil}
 use Rattle.std.specs.Prelude.{not, int_le, int_lt}
 use Rattle.vmv_tree.specs.declared.name.Name.{Name}
-use Rattle.vmv_tree.specs.declared.tree.Operand.TheVariants.{Lit, Var}
+use Rattle.vmv_tree.specs.declared.tree.Operand.TheVariants.{Lit}
 use Rattle.vmv_tree.specs.declared.tree.Rel.{Rel}
 use Rattle.vmv_tree.specs.declared.tree.Test.{Test as CoreTest}
 use Rattle.vmv_tree.specs.Words.{compare}
 use Rattle.vmv_tree.specs.Tree as core
 use Rattle.vmv_tree.specs.Tree.{[], ◌⨾◌}
-use Rattle.vmv_tree.specs.Run.{Valuation, Answers, Site, End, next, End.fail as stopped, Does, Ends, InARow, Calls, Runs, RunsAll, assign, value, holds, sites, block_sites}
+use Rattle.vmv_tree.specs.Run.{Valuation, Answers, End, next, End.fail as stopped, InARow, Calls, Runs, RunsAll, assign, value, holds, block_sites}
 use Rattle.vmv_surface.specs.Surface.{Expr, Test, compared, negated, both, either, TestHasPlainNames}
 use Rattle.vmv_surface.specs.Runs.{Got, gives, fails, May, Only, Then, expr_sites, test_sites, Evaluates, Decides}
 use Rattle.vmv_surface.specs.Temporaries.{temporary}
-use Rattle.vmv_surface.specs.Lower.{◌⧺◌, behind, operand, computed, lowered, sides, comparison, is_set, is_unset, to_word, setting, before, standing}
+use Rattle.vmv_surface.specs.Lower.{◌⧺◌, behind, operand, lowered, sides, comparison, is_set, is_unset, to_word, setting, before, standing}
 use Rattle.vmv_surface_laws.proofs.Same.{Same, Ended, only_same, row_same, Both, moved}
 use Rattle.vmv_surface_laws.proofs.Rows.{joined, alone, joined_sites}
 use Rattle.vmv_surface_laws.proofs.Names.{plain_other}
@@ -81,8 +81,13 @@ flag_set d v u b agree = record {
 pub setting_sites : (d : ℕ) (test : Test) → block_sites (setting d test) ≡ test_sites test
 setting_sites d (compared left rel right) =
     let last : core.Block = core.choose (comparison d left rel right) (to_word d (pos 1)) (to_word d (pos 0)) ⨾ [] in
-    omega (arith, joined_sites (sides d left right) last, joined_sites (lowered d left) (lowered (behind d left) right),
-      computed_sites d (temporary (d + 1)) left, computed_sites (behind d left) (temporary (behind d left + 1)) right)
+    omega (
+      arith,
+      joined_sites (sides d left right) last,
+      joined_sites (lowered d left) (lowered (behind d left) right),
+      computed_sites d (temporary (d + 1)) left,
+      computed_sites (behind d left) (temporary (behind d left + 1)) right,
+    )
 setting_sites d (negated part) =
     let last : core.Block = core.choose (is_set d) (to_word d (pos 0)) (to_word d (pos 1)) ⨾ [] in
     omega (arith, joined_sites (setting d part) last, setting_sites d part)
@@ -147,14 +152,14 @@ module _ (calls : Calls) (proc : Name) where
       (λ x. Then fails (Evaluates calls proc k2 right v) (λ y. Only (gives (compare rel x y))))
       (RunsAll calls proc j l) (RunsAll calls proc j2 r) w (expr_same calls proc d (temporary (d + 1)) left k j v w is plain.0 agree)
       (λ x u c.
-          let agree' = agree_still d left v w x u plain.0 agree c in
-          mapped_same ℤ Bool (Computes dr (temporary (dr + 1)) right v u) A (λ y. compare rel x y) (Evaluates calls proc k2 right v) (RunsAll calls proc j2 r) u
-          (λ y z c'.
-              let later = still dr right v u y z plain.1 agree' c' in
-              let p : value z (operand d left) ≡ x = operand_still d left u z plain.0 later ∙ operand_worth d left v w x u plain.0 agree c in
-              let q : value z (operand dr right) ≡ y = operand_worth dr right v u y z plain.1 agree' c' in
-              record { agree = agree_still dr right v u y z plain.1 agree' c'; decided = λ i. compare rel (p i) (q i) })
-          (expr_same calls proc dr (temporary (dr + 1)) right k2 j2 v u is2 plain.1 agree')))
+      let agree' = agree_still d left v w x u plain.0 agree c in
+      mapped_same ℤ Bool (Computes dr (temporary (dr + 1)) right v u) A (λ y. compare rel x y) (Evaluates calls proc k2 right v) (RunsAll calls proc j2 r) u
+      (λ y z c'.
+      let later = still dr right v u y z plain.1 agree' c' in
+      let p : value z (operand d left) ≡ x = operand_still d left u z plain.0 later ∙ operand_worth d left v w x u plain.0 agree c in
+      let q : value z (operand dr right) ≡ y = operand_worth dr right v u y z plain.1 agree' c' in
+      record { agree = agree_still dr right v u y z plain.1 agree' c'; decided = λ i. compare rel (p i) (q i) })
+      (expr_same calls proc dr (temporary (dr + 1)) right k2 j2 v u is2 plain.1 agree')))
 
   and_goes : (b : Bool) (d : ℕ) (second : May (Got Bool)) (j : ℕ) (block : core.Block) (v u : Valuation) → Sets d v b u
       → Same (Got Bool) (Ended Bool (Sets d v)) second (RunsAll calls proc j block u)
@@ -204,7 +209,7 @@ module _ (calls : Calls) (proc : Name) where
       (row_same Bool (Got Bool) (Sets d v) (Ended Bool (Sets d v)) fails (λ s. refl) (Decides calls proc k first v) go (RunsAll calls proc j l) (RunsAll calls proc j2 last) w
       (setting_same d first k j v w is plain.0 agree)
       (λ b u c. choose_same (Got Bool) (Ended Bool (Sets d v)) (go b) b j2 (is_set d) r [] u (set_holds d b u c.flag)
-          (and_goes b d (Decides calls proc k2 second v) j2 r v u c (setting_same d second k2 j2 v u is2 plain.1 c.agree))))
+      (and_goes b d (Decides calls proc k2 second v) j2 r v u c (setting_same d second k2 j2 v u is2 plain.1 c.agree))))
   setting_same d (either first second) k j v w is plain agree =
       let l : core.Block = setting d first in
       let r : core.Block = setting d second in
@@ -218,7 +223,7 @@ module _ (calls : Calls) (proc : Name) where
       (row_same Bool (Got Bool) (Sets d v) (Ended Bool (Sets d v)) fails (λ s. refl) (Decides calls proc k first v) go (RunsAll calls proc j l) (RunsAll calls proc j2 last) w
       (setting_same d first k j v w is plain.0 agree)
       (λ b u c. choose_same (Got Bool) (Ended Bool (Sets d v)) (go b) (not b) j2 (is_unset d) r [] u (unset_holds d b u c.flag)
-          (or_goes b d (Decides calls proc k2 second v) j2 r v u c (setting_same d second k2 j2 v u is2 plain.1 c.agree))))
+      (or_goes b d (Decides calls proc k2 second v) j2 r v u c (setting_same d second k2 j2 v u is2 plain.1 c.agree))))
 
   flag_stands : (d : ℕ) (test : Test) (k j : ℕ) (v w : Valuation) → standing d test ≡ is_set d → before d test ≡ setting d test → j ≡ k → TestHasPlainNames test → Agree v w
       → Same (Got Bool) (Ended Bool (Stands d test v)) (Decides calls proc k test v) (RunsAll calls proc j (before d test) w)

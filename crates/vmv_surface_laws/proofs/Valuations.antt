@@ -1,11 +1,11 @@
 -- Two valuations: that of a surface run, and that of the lowered program, which has temporaries beside.
-use Rattle.std.proofs.Common.{◌≡◌, ℕ, ◌+◌, ◌<◌, ◌≤◌, ℤ, Bool, true, false, refl, sym, ap, subst, arith, ◌∙◌}
+use Rattle.std.proofs.Common.{◌≡◌, ℕ, ◌+◌, ◌<◌, ◌≤◌, ℤ, Bool, true, false, refl, sym, ap, arith, ◌∙◌}
 use Rattle.std.specs.Prelude.{if◌then◌else◌}
 use Rattle.std.specs.Str.{bytes_eq}
 use Rattle.std.proofs.lemmas.Slice.Eq.{bytes_eq-Decides}
 use Rattle.vmv_tree.specs.declared.name.Name.{Name}
 use Rattle.vmv_tree.specs.Run.{Valuation, assign, value}
-use Rattle.vmv_surface.specs.Surface.{Expr, literal, variable, operate, minus, ask, Args, no_args, arg, IsPlain, HasPlainNames}
+use Rattle.vmv_surface.specs.Surface.{Expr, literal, variable, operate, minus, ask, IsPlain, HasPlainNames}
 use Rattle.vmv_surface.specs.Temporaries.{temporary}
 use Rattle.vmv_surface.specs.Lower.{behind, operand}
 use Rattle.vmv_surface_laws.proofs.Names.{temporary_once, plain_other}
@@ -57,7 +57,6 @@ below_ne d x below = below (d + 1) (omega arith)
 
 module _ (d : ℕ) (e : Expr) (v w : Valuation) (word : ℤ) (u : Valuation) (plain : HasPlainNames e) (agree : Agree v w)
     (c : Computes d (temporary (d + 1)) e v w word u) where
-
   -- a name that is no temporary above d has its word still
   pub still : (x : Name) → IsBelow d x → u x ≡ w x
   still x below = c.kept x (below_ne d x below) below
