@@ -7,3 +7,4 @@ pub mod Tests
 pub mod Statements
 pub mod Bodies
 pub mod Programs
+mod Examples
