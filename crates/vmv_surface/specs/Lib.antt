@@ -1,0 +1,4 @@
+pub mod Surface
+pub mod Runs
+pub mod Temporaries
+pub mod Lower
