@@ -1,13 +1,9 @@
-use crate::commands::command;
-use crate::judge::judge;
 use crate::keeper::NotingKeeper;
-use crate::questions::label;
 use crate::repeats::{Setting, put_turn, repeat};
-use crate::replies::put_reply;
-use crate::rows::put_rows;
 use std::alloc::Global;
 use vmv_cases::{Case, Sheet, number, tail, word};
 use vmv_desk::{Desk, StartFault};
+use vmv_desk_texts::{command, judge, label, put_reply, put_rows, size};
 use vmv_keeper::{Command, Judge, MemoryKeeper};
 
 /// The number of a call.
@@ -45,11 +41,6 @@ fn start(alloc: Global, keeper: NotingKeeper, sheet: &mut Sheet) -> Option<Desk<
             None
         }
     }
-}
-
-/// A number up to which a store counts.
-pub fn size(word: &[u8]) -> Option<u32> {
-    u32::try_from(number(word)?).ok()
 }
 
 /// `restart REPLIES NEXT`: closes a desk and starts another over its store, which notes its calls anew, and from then on

@@ -1,7 +1,6 @@
-use crate::judge::{judge, text_of};
-use crate::replies::{put_fault_of_text, put_number};
 use std::alloc::Global;
 use vmv_cases::{Case, Sheet, word};
+use vmv_desk_texts::{judge, put_fault_of_text, put_number, text_of};
 use vmv_edge::Text;
 use vmv_keeper::{Compared, Inspected, Judge};
 

@@ -2,17 +2,11 @@
 #![tactic(auto)]
 
 mod acts;
-mod commands;
 mod history;
-mod judge;
 mod judged;
 mod keeper;
-mod looks;
 mod migrated;
-mod questions;
 mod repeats;
-mod replies;
-mod rows;
 mod small;
 mod stores;
 

@@ -1,10 +1,8 @@
-use crate::history::size;
-use crate::questions::label;
-use crate::replies::{put_reply, put_versions};
 use crate::small::put_same;
 use std::alloc::Global;
 use vmv_cases::{Sheet, number, word};
 use vmv_desk::{OldRow, OldRows, migrate};
+use vmv_desk_texts::{label, put_reply, put_versions, size};
 use vmv_keeper::{Reply, VersionRow, VersionRows};
 
 /// The version that a line `NUMBER KIND SUBMISSION CALLER` writes.

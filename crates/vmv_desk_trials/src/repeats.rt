@@ -1,9 +1,8 @@
-use crate::commands::command;
 use crate::keeper::NotingKeeper;
-use crate::replies::put_reply;
 use std::alloc::Global;
 use vmv_cases::{Case, Sheet, number, word};
 use vmv_desk::Desk;
+use vmv_desk_texts::{command, halves, put_reply};
 use vmv_keeper::MemoryJudge;
 
 /// What the commands of a history are read and judged by.
@@ -22,14 +21,6 @@ pub fn put_turn(setting: &Setting, desk: &mut Desk<NotingKeeper>, line: &[u8], s
             put_reply(&reply, sheet);
         }
         None => sheet.refuse(),
-    }
-}
-
-/// What stands before and behind the first `=` of a line.
-pub fn halves(line: &[u8]) -> (&[u8], &[u8]) {
-    match line.iter().position(|byte| *byte == b'=') {
-        Some(at) => (&line[..at], &line[at + 1..]),
-        None => (line, b"".as_slice()),
     }
 }
 

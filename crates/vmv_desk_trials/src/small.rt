@@ -1,6 +1,6 @@
-use crate::history::size;
 use std::alloc::Global;
 use vmv_cases::{Sheet, word};
+use vmv_desk_texts::size;
 use vmv_keeper::{Label, Rows};
 
 /// `? label TEXT`: the label of these bytes, or that they are none.

@@ -1,9 +1,8 @@
-use crate::acts::{change, is_same_change};
+use crate::acts::is_same_change;
 use crate::history::failing;
-use crate::looks::look;
-use crate::rows::put_fault;
 use std::alloc::Global;
 use vmv_cases::{Case, Sheet, tail};
+use vmv_desk_texts::{change, is_change, look, put_fault};
 use vmv_keeper::{Change, FaultlessKeeper, KeepFault, Keeper, MemoryKeeper};
 
 /// The copy of the change of a line.
@@ -54,10 +53,6 @@ fn commit_faultless(
     } else {
         sheet.line(b"doesn't fit");
     }
-}
-
-fn is_change(line: &[u8]) -> bool {
-    line.iter().any(|byte| *byte == b'=')
 }
 
 /// `? store CALL ..`: what the lines of the text `store` answer, over a store in memory whose calls with these numbers

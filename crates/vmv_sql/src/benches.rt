@@ -5,7 +5,7 @@ ghost use Rattle.std.specs.declared.cmp.Ordering.TheVariants.{Less};
 ghost use Rattle.vmv_keeper.specs.Formed.{AreBenches, IsBench, Rises};
 ghost use Rattle.vmv_sql.specs.Order.{key_cmp};
 
-use crate::cells::{label_at, number_at};
+use crate::cells::{label_at, number_within};
 use crate::sql;
 use crate::statements::{all_rows, name};
 use sqlite::types::ValueRef;
@@ -32,7 +32,7 @@ fn is_before(key: &Key, other: &Key) -> bool
     }
 }
 
-// The numbers that the rows have: at most 32, which rise from 1 on.
+// The numbers that the rows have: at most 32, which rise from 1 on and are at most 1,000,000.
 fn waiting_of(alloc: Global, rows: &[Row]) -> Result<Numbers, KeepFault>
     ensures few { IfOk result (λ numbers. length numbers ≤ 32) }
     ensures rising { IfOk result (Rises 1) }
@@ -43,7 +43,7 @@ fn waiting_of(alloc: Global, rows: &[Row]) -> Result<Numbers, KeepFault>
     let mut numbers = Numbers::new(alloc);
     let mut last = 0;
     for row in rows {
-        let number = number_at(row, 0)?;
+        let number = number_within(row, 0, 1, 1_000_000)?;
         if number <= last {
             return Err(KeepFault::Failed);
         }

@@ -58,6 +58,15 @@ fn kind_at(row: &Row, place: usize, number: u32) -> Result<u8, KeepFault>
     }
 }
 
+// The number of the submission that a version of this kind was made of. The first version was made of none: 0.
+fn submission_at(row: &Row, place: usize, kind: u8) -> Result<u32, KeepFault> {
+    if kind == 1 {
+        number_within(row, place, 0, 0)
+    } else {
+        number_within(row, place, 1, 1_000_000)
+    }
+}
+
 // The version of a row as a store of mark 1 kept it, where its number is this one.
 fn old_row_of(row: &Row, number: u32) -> Result<OldRow, KeepFault>
     ensures { IfOk result (λ version. (version.number ≡ number) × (number ≡ 1 → version.kind ≡ 1)) }
@@ -69,7 +78,7 @@ fn old_row_of(row: &Row, number: u32) -> Result<OldRow, KeepFault>
     Ok(OldRow {
         number,
         kind,
-        submission: number_within(row, 2, if kind == 1 { 0 } else { 1 }, 1_000_000)?,
+        submission: submission_at(row, 2, kind)?,
         by: label_at(row, 3)?,
     })
 }

@@ -41,19 +41,24 @@ pub(crate) fn load<'a, S: Alter>(
     }))
 }
 
-// The row of a version or of a submission of this number, by the statement.
+// The row of a version or of a submission of this number, by the statement. A row under a number that none can have,
+// 0 or one above the most, is a fault.
 fn numbered_row<'a, S: Alter>(
     connection: &mut Connection<S>,
     statement: &str,
     owner: &'a Label,
     project: &'a Label,
     at: u32,
+    most: u32,
 ) -> Result<Option<Row>, KeepFault>
     requires { connection.old.in_transaction ≡ false }
     ensures { connection.new.in_transaction ≡ false }
 {
     let values: [ValueRef<'a>; 3] = [name(owner), name(project), number(at)];
-    first_row(connection, statement, &values)
+    match first_row(connection, statement, &values)? {
+        Some(_) if at < 1 || most < at => Err(KeepFault::Failed),
+        found => Ok(found),
+    }
 }
 
 /// The text of a version, where there is one.
@@ -68,7 +73,7 @@ pub(crate) fn text<S: Alter>(
     ensures mode { connection.new.in_transaction ≡ false }
     ensures formed { IfOk result (λ found. IfSome found IsUtf8) }
 {
-    match numbered_row(connection, sql::TEXT, owner, project, version)? {
+    match numbered_row(connection, sql::TEXT, owner, project, version, 1024)? {
         Some(row) => Ok(Some(text_at(alloc, &row, 0)?)),
         None => Ok(None),
     }
@@ -95,7 +100,7 @@ pub(crate) fn submission<S: Alter>(
     ensures mode { connection.new.in_transaction ≡ false }
     ensures formed { IfOk result (λ found. IfSome found (λ submitted. IsUtf8 submitted.text)) }
 {
-    match numbered_row(connection, sql::SUBMISSION, owner, project, at)? {
+    match numbered_row(connection, sql::SUBMISSION, owner, project, at, 1_000_000)? {
         Some(row) => Ok(Some(submitted_of(alloc, &row)?)),
         None => Ok(None),
     }

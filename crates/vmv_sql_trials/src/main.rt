@@ -1,21 +1,33 @@
-//! Trials of the store over SQL, in memory: what is committed, found again, taken over, or spoiled.
+//! Trials of the store over SQL, in memory and in files: what is committed, found again, taken over, spoiled, or stopped.
 #![tactic(auto)]
 
-mod changes;
-mod looks;
+mod histories;
 mod store;
-mod written;
+mod stops;
+mod vaults;
 
 use std::alloc::Global;
 use std::process::ExitCode;
-use vmv_cases::{Case, Sheet, Trial, run_cases};
+use std::rt::HostRuntime;
+use vmv_cases::{Case, Sheet, Trial, run_cases, word};
 
-struct Trials;
+/// What the trials work with.
+#[derive(Drop)]
+struct Trials<'r> {
+    rt: &'r HostRuntime,
+}
 
-impl Trial for Trials {
+impl<'r> Trial for Trials<'r> {
     fn answer(&self, alloc: Global, case: &Case, ask: &[u8], sheet: &mut Sheet) {
-        if ask == b"sql_store".as_slice() {
-            store::store(alloc, case, sheet);
+        let word = word(ask, 0);
+        if word == b"sql_store".as_slice() {
+            store::in_memory(alloc, case, sheet);
+        } else if word == b"vault".as_slice() {
+            vaults::vault(self.rt, alloc, case, ask, sheet);
+        } else if word == b"both".as_slice() {
+            histories::both(alloc, case, ask, sheet);
+        } else if word == b"stops".as_slice() {
+            stops::stops(alloc, case, ask, sheet);
         } else {
             sheet.refuse();
         }
@@ -23,5 +35,5 @@ impl Trial for Trials {
 }
 
 fn main(rt: HostRuntime) -> ExitCode {
-    run_cases(&rt, rt.alloc(), &Trials)
+    run_cases(&rt, rt.alloc(), &Trials { rt: &rt })
 }

@@ -1,3 +1,5 @@
+//! Rows of a store, written as words.
+
 use crate::replies::{put_number, put_versions};
 use std::alloc::Global;
 use vmv_cases::Sheet;
@@ -11,6 +13,7 @@ pub fn put_fault(fault: KeepFault, sheet: &mut Sheet) {
     }
 }
 
+/// Writes a project with the numbers that wait in it.
 pub fn put_bench(bench: &Bench, sheet: &mut Sheet) {
     sheet.put(b"project ");
     sheet.put(bench.owner.bytes());

@@ -1,8 +1,9 @@
+//! Looks at what a store holds.
+
 use crate::acts::put_act;
-use crate::history::size;
-use crate::questions::label;
 use crate::replies::put_reply;
 use crate::rows::{put_bench, put_fault, put_project, put_replies};
+use crate::words::{label, size};
 use std::alloc::Global;
 use vmv_cases::{Sheet, word};
 use vmv_keeper::{Keeper, Kept, Label};

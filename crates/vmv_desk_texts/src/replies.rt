@@ -1,3 +1,5 @@
+//! Replies of a desk, written as words.
+
 use vmv_cases::Sheet;
 use vmv_keeper::{PendingRow, Reply, VersionRow};
 

@@ -1,5 +1,8 @@
-use crate::judge::text_of;
-use crate::questions::{label, question, submission};
+//! Commands to a desk.
+
+use crate::judges::text_of;
+use crate::questions::{question, submission};
+use crate::words::label;
 use std::alloc::Global;
 use vmv_cases::{Case, Sheet, word};
 use vmv_edge::Text;

@@ -1,3 +1,5 @@
+//! Judges in memory, and the texts that they judge.
+
 use std::alloc::Global;
 use std::str;
 use vmv_cases::{Case, Sheet, number, tail, word};

@@ -1,14 +1,12 @@
-use vmv_cases::{number, word};
-use vmv_keeper::{Label, Query};
+//! Questions to a desk.
 
-/// The label that word number `place` of a line writes.
-pub fn label(line: &[u8], place: u32) -> Option<Label> {
-    Label::read(word(line, place))
-}
+use crate::words::{label, size};
+use vmv_cases::word;
+use vmv_keeper::{Label, Query};
 
 /// The number of a submission, as word 4 of a line writes it.
 pub fn submission(line: &[u8]) -> Option<u32> {
-    u32::try_from(number(word(line, 4))?).ok()
+    size(word(line, 4))
 }
 
 fn report(owner: Label, project: Label, line: &[u8]) -> Option<Query> {
