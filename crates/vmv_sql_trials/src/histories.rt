@@ -18,7 +18,7 @@ pub struct Setting<'c> {
 }
 
 /// The setting of a case, whose text `judge` tells the judge what he says.
-pub fn setting<'c>(alloc: Global, case: &'c Case, sheet: &mut Sheet) -> Setting<'c> {
+pub fn setting_of<'c>(alloc: Global, case: &'c Case, sheet: &mut Sheet) -> Setting<'c> {
     let judge = judge(alloc, case, sheet);
     Setting { alloc, case, judge }
 }
@@ -169,7 +169,7 @@ fn put_same_rows(
 /// `? both CALLER NUMBER ..`: whether a history has the same replies over a store over SQL and over one in memory, the
 /// replies of these numbers, and the rows that it leaves in both.
 pub fn both(alloc: Global, case: &Case, ask: &[u8], sheet: &mut Sheet) {
-    let setting = setting(alloc, case, sheet);
+    let setting = setting_of(alloc, case, sheet);
     let Some(store) = made(alloc, sheet) else {
         sheet.refuse();
         return;

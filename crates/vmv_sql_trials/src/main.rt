@@ -2,8 +2,8 @@
 #![tactic(auto)]
 
 mod histories;
-mod store;
 mod stops;
+mod store;
 mod vaults;
 
 use std::alloc::Global;

@@ -1,6 +1,6 @@
 //! Stores in files in memory, of which one is stopped after so many of its calls.
 
-use crate::histories::{Setting, rows_of, setting, start};
+use crate::histories::{Setting, rows_of, setting_of, start};
 use sqlite::{Connection, FileStore, Files, Options};
 use sqlite_disk::{Crash, Fuse, Memory};
 use std::alloc::Global;
@@ -227,16 +227,10 @@ pub fn stops(alloc: Global, case: &Case, ask: &[u8], sheet: &mut Sheet) {
         sheet.refuse();
         return;
     };
-    let setting = setting(alloc, case, sheet);
+    let setting = setting_of(alloc, case, sheet);
     let behind = rows_behind_each(&setting, &caller, sheet);
     sheet.put(b"log stopped behind");
-    put_stops(
-        &setting,
-        &caller,
-        behind.as_slice(),
-        Stopped::Log,
-        sheet,
-    );
+    put_stops(&setting, &caller, behind.as_slice(), Stopped::Log, sheet);
     sheet.put(b"database stopped behind");
     put_stops(
         &setting,

@@ -3,9 +3,8 @@
 use crate::store::step;
 use sqlite::Connection;
 use std::alloc::Global;
-use std::fs;
 use std::rt::HostRuntime;
-use std::str;
+use std::{fs, str};
 use vmv_cases::{Case, Sheet, word};
 use vmv_sql_vault::{FileKeeper, SqlVault};
 use vmv_vault::{Vault, VaultFault};
