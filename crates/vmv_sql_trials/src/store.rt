@@ -45,7 +45,13 @@ fn put_done(answer: Result<(), KeepFault>, done: &[u8], sheet: &mut Sheet) {
 }
 
 /// Makes the change of a line.
-fn commit<K: Keeper>(store: &mut K, alloc: Global, case: &Case, line: &[u8], sheet: &mut Sheet) {
+fn commit<S: Alter>(
+    store: &mut SqlKeeper<S>,
+    alloc: Global,
+    case: &Case,
+    line: &[u8],
+    sheet: &mut Sheet,
+) {
     match change(alloc, case, line, sheet) {
         Some(change) => put_done(store.commit(alloc, &change), b"made", sheet),
         None => sheet.refuse(),
