@@ -60,7 +60,7 @@ stored_as rows other faults count same stands =
 -- the link and the store that a served link leaves, by how it was served
 pub leaves_of : (I : List ℕ → Inspected → Type 0) (C : List ℕ → List ℕ → Compared → Type 0) {K : Type 0} (st : K → Stored) (old new : K) (link left : Seen) (served : Served)
     → IfAnswered served (λ status. (answer : Answer) × (status ≡ status_of answer) × Appended link.written (text_of answer) left.written
-      × IsAnswerBy I C link.input (st old).rows (st new).rows answer × OnErr answer (new ≡ old))
+    × IsAnswerBy I C link.input (st old).rows (st new).rows answer × OnErr answer (new ≡ old))
     → IfAnswered served (λ status. IsCounted status (st old).faults (st new).faults)
     → (served ≡ CutOff Ended → OfInput link.input EndsEarly)
     → (served ≡ CutOff Ended → (new ≡ old) × (left.written ≡ link.written))
@@ -68,7 +68,7 @@ pub leaves_of : (I : List ℕ → Inspected → Type 0) (C : List ℕ → List �
     → (served ≡ CutOff ReadFailed → (new ≡ old) × (left.written ≡ link.written))
     → (served ≡ CutOff WriteFailed → Rose link.faults left.faults)
     → (served ≡ CutOff WriteFailed → (answer : Answer) × AppendedFront link.written (text_of answer) left.written
-      × IsAnswerBy I C link.input (st old).rows (st new).rows answer × OnErr answer (new ≡ old) × IsCounted (status_of answer) (st old).faults (st new).faults)
+    × IsAnswerBy I C link.input (st old).rows (st new).rows answer × OnErr answer (new ≡ old) × IsCounted (status_of answer) (st old).faults (st new).faults)
     → (served ≡ Memory → left.written ≡ link.written)
     → (served ≡ Memory → IsUnansweredBy I C link.input (st old).rows (st new).rows)
     → Leaves I C ((keeper : K) → (st keeper).faults ≡ 0) link left (st old) (st new)
@@ -126,9 +126,14 @@ module _ {L : Type 0} (I : List ℕ → Inspected → Type 0) (C : List ℕ → 
       let Q : List Seen → Type 0 = λ xs. Serves I C Steady start (map seen taken ++ seen k.0 ∷ []) xs now in
       let given : links.left ≡ (taken ++ k.0 ∷ []) ++ later.left = h.2 ∙ ap (λ l. taken ++ l) k.2 ∙ sym (append_assoc taken (k.0 ∷ []) later.left) in
       let kept : later.back ≡ links.back ++ (back ++ k.1 ∷ []) = k.3 ∙ ap (λ l. l ++ k.1 ∷ []) h.3 ∙ append_assoc links.back back (k.1 ∷ []) in
-      let size : length (taken ++ k.0 ∷ []) ≡ n + 1 = length_push taken k.0 ∙ ap (λ m. m + 1) h.4 in
-      (taken ++ k.0 ∷ [], back ++ k.1 ∷ [], given, kept, size,
-        subst P (sym (map-append seen taken (k.0 ∷ []))) (subst Q (sym (map-append seen back (k.1 ∷ []))) (one_more (map seen taken) (map seen back) (seen k.0) (seen k.1) before now h.5 k.4 k.5)))
+      let size : length (taken ++ k.0 ∷ []) ≡ n + 1 = length_push taken k.0 ∙ ap (λ m. m + 1) h.4 in (
+        taken ++ k.0 ∷ [],
+        back ++ k.1 ∷ [],
+        given,
+        kept,
+        size,
+        subst P (sym (map-append seen taken (k.0 ∷ []))) (subst Q (sym (map-append seen back (k.1 ∷ []))) (one_more (map seen taken) (map seen back) (seen k.0) (seen k.1) before now h.5 k.4 k.5)),
+      )
 
 -- what holds over a store that is steady holds where steadiness is told in a stronger way
 

@@ -23,5 +23,5 @@ returns-clause-prefix g c =
     let end = O.taken c.write_all-3.new.out in
     refusal_as c.write_all-3.result (AppendedFront (O.taken c.write_all-2.new.out) (10 ∷ []) end) (AppendedFront (O.taken c.args.out.now) (line_of c.args.word.now c.args.said.now) end)
     (λ last. front_behind (O.taken c.args.out.now) (O.taken c.write_all.new.out) end c.args.word.now (c.args.said.now ++ 10 ∷ []) c.in_ok-write_all.ensures.written
-      (front_behind (O.taken c.write_all.new.out) (O.taken c.write_all-2.new.out) end c.args.said.now (10 ∷ []) (rw c.as_bytes.ensures.value at c.in_ok-write_all-2.ensures.written) last))
+    (front_behind (O.taken c.write_all.new.out) (O.taken c.write_all-2.new.out) end c.args.said.now (10 ∷ []) (rw c.as_bytes.ensures.value at c.in_ok-write_all-2.ensures.written) last))
     c.write_all-3.ensures.prefix

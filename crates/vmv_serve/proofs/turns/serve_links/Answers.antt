@@ -8,9 +8,15 @@ pub loop-taken-init : goal.loop-taken-init
 loop-taken-init g c =
     let judge = c.args.judge.now in
     let st : g.row.K.Denot → Stored = λ keeper. record { rows = g.K.Keeper.told keeper; faults = g.K.Keeper.fault_count keeper } in
-    let seen : g.row.D-Link.Denot → Seen = λ link. record { input = g.D.Link.Link.input link; written = g.D.Link.Link.written link; faults = g.D.Link.Link.fault_count link } in
-    (omega arith, omega arith, omega arith, refl, refl, λ _. refl,
-      none_of (g.J.Judge.inspected judge) (g.J.Judge.compared judge) ((keeper : g.row.K.Denot) → g.K.Keeper.fault_count keeper ≡ 0) seen (st c.args.desk.now) (g.D.Door.told c.args.door.now))
+    let seen : g.row.D-Link.Denot → Seen = λ link. record { input = g.D.Link.Link.input link; written = g.D.Link.Link.written link; faults = g.D.Link.Link.fault_count link } in (
+      omega arith,
+      omega arith,
+      omega arith,
+      refl,
+      refl,
+      λ _. refl,
+      none_of (g.J.Judge.inspected judge) (g.J.Judge.compared judge) ((keeper : g.row.K.Denot) → g.K.Keeper.fault_count keeper ≡ 0) seen (st c.args.desk.now) (g.D.Door.told c.args.door.now),
+    )
 
 pub loop-taken-preserved : goal.loop-taken-preserved
 loop-taken-preserved g c =
@@ -21,11 +27,17 @@ loop-taken-preserved g c =
     let is = c.in-Ok-true.field-0-test in
     let e = c.in-Ok-true.ensures in
     let given = rw is at e.given in
-    let back = rw is at e.given_back in
-    (omega arith, omega (arith, given, v.1), omega (arith, back, v.2), e.stands ∙ v.3, e.listens ∙ v.4, λ none. absurd (omega (arith, none)),
+    let back = rw is at e.given_back in (
+      omega arith,
+      omega (arith, given, v.1),
+      omega (arith, back, v.2),
+      e.stands ∙ v.3,
+      e.listens ∙ v.4,
+      λ none. absurd (omega (arith, none)),
       more_of (g.J.Judge.inspected judge) (g.J.Judge.compared judge) ((keeper : g.row.K.Denot) → g.K.Keeper.fault_count keeper ≡ 0) seen c.loop-taken.taken
-      (st c.args.desk.now) (st c.loop-taken.desk) (st c.serve_next.new.desk) (g.D.Door.told c.args.door.now) (g.D.Door.told c.loop-taken.door) (g.D.Door.told c.serve_next.new.door)
-      v.6 (e.served (ap Ok is)))
+          (st c.args.desk.now) (st c.loop-taken.desk) (st c.serve_next.new.desk) (g.D.Door.told c.args.door.now) (g.D.Door.told c.loop-taken.door) (g.D.Door.told c.serve_next.new.door)
+          v.6 (e.served (ap Ok is)),
+    )
 
 pub returns-in-Ok-false-clause-served : goal.returns-in-Ok-false-clause-served
 returns-in-Ok-false-clause-served g c =

@@ -19,7 +19,7 @@ returns-clause-served g c is =
     let start = g.D.Door.told c.args.door.now in
     let mid = g.D.Door.told c.next.new.self in
     let leaves = leaves_of I C st old new (seen c.in-Some.link) (seen c.serve_one.new.link) c.serve_one.result e.answered e.counted e.ended e.ended_unhandled
-        e.read_failed e.read_failed_unhandled e.write_failed e.cut_answer e.unwritten e.unanswered in
+    e.read_failed e.read_failed_unhandled e.write_failed e.cut_answer e.unwritten e.unanswered in
     let P : Option (g.row.D-Link.Denot) → Type 0 = λ o. IsGiven {L = g.row.D-Link.Denot} {E = Failed} (Ok o) start mid in
     next_of I C ((keeper : g.row.K.Denot) → g.K.Keeper.fault_count keeper ≡ 0) seen Failed c.in-Some.link c.serve_one.new.link (st old) (st new)
     start mid (g.D.Door.told c.give_back.new.self) (subst P c.in-Some.is c.in_ok-link.ensures.told) c.give_back.ensures.told leaves e.well
