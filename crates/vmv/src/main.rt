@@ -4,10 +4,10 @@
 use std::env;
 use std::io::{Error, ErrorKind};
 use std::process::ExitCode;
-use vmv_command::run;
-use vmv_door::FaultlessDoor;
 use vmv_edge::{FileShelf, StreamSink};
-use vmv_vault::FaultlessVault;
+use vmv_program::run;
+use vmv_sql_vault::SqlVault;
+use vmv_tcp::TcpDoor;
 
 // The words behind the program's name, or none where one of them isn't UTF-8.
 fn given_words(rt: &HostRuntime) -> Result<Vec<String>, Error> {
@@ -30,17 +30,14 @@ fn main(rt: HostRuntime) -> ExitCode {
     };
     let mut shelf = FileShelf::new(&rt);
     let mut out = StreamSink::new(rt.stdout());
-    let Ok(mut door) = FaultlessDoor::new(rt.alloc(), Vec::new(rt.alloc())) else {
-        return ExitCode::from(8);
-    };
     let status = run(
         &rt,
         rt.alloc(),
         &words,
         &mut shelf,
         &mut out,
-        &mut FaultlessVault::new(),
-        &mut door,
+        &mut SqlVault::new(&rt),
+        &mut TcpDoor::new(&rt),
     );
     ExitCode::from(status)
 }

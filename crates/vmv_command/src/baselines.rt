@@ -19,7 +19,8 @@ use vmv_snapshot::Snapshot;
 use vmv_source::parse;
 
 fn status_of(needed: &Needed) -> u8
-    ensures { result ≡ baseline_status needed.now }
+    ensures same { result ≡ baseline_status needed.now }
+    ensures known { result ≤ 9 }
 {
     match needed {
         Needed::Conditions { .. } => 0,

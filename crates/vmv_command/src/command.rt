@@ -14,11 +14,9 @@ use crate::review::review_files;
 use crate::samples::sample_output;
 use std::alloc::Global;
 use std::thread::Threads;
-use vmv_door::Door;
 use vmv_edge::{Shelf, Sink};
 use vmv_proof_check::accepted_proofs_are_sound;
 use vmv_report::{correct_verdicts_hold, only_correct_reports_say_so, regressing_reports_show_it};
-use vmv_vault::Vault;
 use vmv_words::{Request, read_words, words_ask_for_few_workers, words_ask_for_one_thing};
 
 const USAGE: &[u8] =
@@ -62,15 +60,14 @@ fn output_of<R: Threads + Sync, F: Shelf>(
 ///
 /// All texts are read first, a proof's of at most 67,108,864 bytes and each other of at most 1,048,576; then the work is done;
 /// then the whole output is written.
-pub fn run<R: Threads + Sync, F: Shelf, O: Sink, V: Vault, D: Door>(
+pub fn run_command<R: Threads + Sync, F: Shelf, O: Sink>(
     rt: &R,
     alloc: Global,
     words: &[String],
     shelf: &mut F,
     out: &mut O,
-    _vault: &mut V,
-    _door: &mut D,
 ) -> u8
+    ensures statuses { result ≤ 9 }
     ensures output { IsWhole result → (printed : List ℕ) × Outputs (map string_bytes words.now) (F.told shelf.old) printed result × Appended (O.taken out.old) printed (O.taken out.new) }
     ensures usage { AsksNothing (map string_bytes words.now) → (result ≡ 9) ⊎ (result ≡ 7) ⊎ (result ≡ 8) }
     ensures shelf_failed { result ≡ 6 → Rose (F.fault_count shelf.old) (F.fault_count shelf.new) }
@@ -78,7 +75,6 @@ pub fn run<R: Threads + Sync, F: Shelf, O: Sink, V: Vault, D: Door>(
     ensures nothing { (result ≡ 6) ⊎ (result ≡ 8) → Appended (O.taken out.old) [] (O.taken out.new) }
     ensures sink_failed { result ≡ 7 → Rose (O.fault_count out.old) (O.fault_count out.new) }
     ensures sink_stands { result ≢ 7 → O.fault_count out.new ≡ O.fault_count out.old }
-    ensures others_stand { (V.fault_count _vault.new ≡ V.fault_count _vault.old) × (D.fault_count _door.new ≡ D.fault_count _door.old) }
     ensures prefix { result ≡ 7 → (printed : List ℕ) × (status : ℕ) × Outputs (map string_bytes words.now) (F.told shelf.old) printed status × AppendedFront (O.taken out.old) printed (O.taken out.new) }
     ensures relatively_correct { VerdictHolds (map string_bytes words.now) (F.told shelf.old) (O.taken out.old) (O.taken out.new) }
     ensures accepted { ProofHolds (map string_bytes words.now) (F.told shelf.old) result }

@@ -1,4 +1,4 @@
-ghost use Rattle.std.specs.Prelude.{◌≡◌, ◌≢◌, IfOk};
+ghost use Rattle.std.specs.Prelude.{◌≡◌, ◌≢◌, IfOk, ◌≤◌};
 ghost use Rattle.std.specs.String.{string_bytes};
 ghost use Rattle.vmv_command.specs.Faults.{program_limit, procedure_limit, entry_limit, limit_word, defect_text, place_end, fault_end, defect_status, fault_status, SaysFault};
 
@@ -107,7 +107,8 @@ fn fault_end(alloc: Global, fault: TextFault) -> Result<String, AllocError>
 }
 
 fn defect_status(defect: Defect) -> u8
-    ensures { result ≡ defect_status defect }
+    ensures same { result ≡ defect_status defect }
+    ensures known { result ≤ 9 }
 {
     match defect {
         Defect::UnknownName
@@ -120,7 +121,8 @@ fn defect_status(defect: Defect) -> u8
 }
 
 fn fault_status(fault: TextFault) -> u8
-    ensures { result ≡ fault_status fault }
+    ensures same { result ≡ fault_status fault }
+    ensures known { result ≤ 9 }
 {
     match fault {
         TextFault::NotUtf8 { .. } | TextFault::Syntax { .. } => 4,

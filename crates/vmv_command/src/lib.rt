@@ -1,4 +1,4 @@
-//! The commands of the program: from the words of the command line to the printed bytes and the status.
+//! The commands over texts: from the words of the command line to the printed bytes and the status.
 #![tactic(auto)]
 
 mod baselines;
@@ -12,7 +12,7 @@ mod review;
 mod samples;
 mod summary;
 
-pub use command::run;
+pub use command::run_command;
 
 // The most bytes that a text of a program or of a witness may have, as a number and as a size.
 pub(crate) const TEXT_MOST: u32 = 1_048_576;

@@ -1,4 +1,5 @@
-ghost use Rattle.std.specs.Prelude.{◌≡◌, ◌≢◌, IfOk, OnErr};
+ghost use Rattle.std.specs.Prelude.{◌≡◌, ◌≢◌, ◌≤◌, IfOk};
+ghost use Rattle.std.proofs.Props.{props};
 ghost use Rattle.vmv_command.specs.declared.output.Stop.TheVariants.{Memory};
 ghost use Rattle.vmv_edge.specs.Outside.{Rose, Appended, AppendedFront};
 
@@ -10,12 +11,15 @@ use vmv_edge::{Sink, Text, write_all};
 pub(crate) struct Output {
     pub(crate) text: Text,
     pub(crate) status: u8,
+    ghost known: { status ≤ 9 } by { Prim.hlevel props },
 }
 
 impl Output {
     /// A constant text.
     pub(crate) fn of(alloc: Global, text: &[u8], status: u8) -> Result<Output, AllocError>
-        ensures { IfOk result (λ output. output ≡ record { text = text.now; status = status }) }
+        requires { status ≤ 9 }
+        ensures text { IfOk result (λ output. output.text ≡ text.now) }
+        ensures status { IfOk result (λ output. output.status ≡ status) }
     {
         let text = Text::from_slice(alloc, text)?;
         Ok(Output { text, status })

@@ -1,4 +1,4 @@
-ghost use Rattle.std.specs.Prelude.{◌≡◌, ◌≢◌, ◌++◌, IfOk, IsErrOf, codes};
+ghost use Rattle.std.specs.Prelude.{◌≡◌, ◌≢◌, ◌++◌, IfOk, IsErrOf, codes, ◌≤◌};
 ghost use Rattle.std.specs.String.{string_bytes};
 ghost use Rattle.vmv_edge.specs.Outside.{Rose};
 ghost use Rattle.vmv_snapshot.specs.Resolution.{tree_of};
@@ -34,7 +34,8 @@ fn proof_fault_end(alloc: Global, fault: ProofFault) -> Result<String, AllocErro
 }
 
 fn proof_fault_status(fault: ProofFault) -> u8
-    ensures { result ≡ proof_fault_status fault }
+    ensures same { result ≡ proof_fault_status fault }
+    ensures known { result ≤ 9 }
 {
     match fault {
         ProofFault::Syntax { .. } | ProofFault::Range { .. } => 4,
@@ -58,7 +59,8 @@ fn proof_fault_output(alloc: Global, fault: ProofFault) -> Result<Output, AllocE
 }
 
 fn accepted_status(left: u32) -> u8
-    ensures { result ≡ accepted_status left }
+    ensures same { result ≡ accepted_status left }
+    ensures known { result ≤ 9 }
 {
     if left == 0 { 0 } else { 1 }
 }

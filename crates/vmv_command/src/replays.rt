@@ -1,4 +1,4 @@
-ghost use Rattle.std.specs.Prelude.{◌≡◌, ◌≢◌, ◌++◌, ◌↔◌, map, Ok, IfOk, IsErrOf, IsTrue, codes};
+ghost use Rattle.std.specs.Prelude.{◌≡◌, ◌≢◌, ◌++◌, ◌↔◌, map, Ok, IfOk, IsErrOf, IsTrue, codes, ◌≤◌};
 ghost use Rattle.std.specs.String.{string_bytes};
 ghost use Rattle.vmv_snapshot.specs.Resolution.{tree_of};
 ghost use Rattle.vmv_witness.specs.Fit.{Fits};
@@ -36,7 +36,8 @@ fn witness_fault_end(alloc: Global, fault: WitnessFault) -> Result<String, Alloc
 }
 
 fn witness_fault_status(fault: WitnessFault) -> u8
-    ensures { result ≡ witness_fault_status fault }
+    ensures same { result ≡ witness_fault_status fault }
+    ensures known { result ≤ 9 }
 {
     match fault {
         WitnessFault::Syntax { .. } | WitnessFault::Range { .. } => 4,
@@ -89,6 +90,7 @@ fn is_same(name: &Name, other: &Name) -> bool
 fn fails_status(at: &NamedSite, named: &NamedSite) -> u8
     ensures same { at.now ≡ named.now → result ≡ 0 }
     ensures other { at.now ≢ named.now → result ≡ 1 }
+    ensures known { result ≤ 9 }
 {
     let same = is_same(&at.proc, &named.proc) && at.index == named.index;
     if same { 0 } else { 1 }

@@ -25,7 +25,8 @@ use vmv_snapshot::Snapshot;
 use vmv_source::parse;
 
 fn status_of(verdict: u8) -> u8
-    ensures { result ≡ review_status verdict }
+    ensures same { result ≡ review_status verdict }
+    ensures known { result ≤ 9 }
 {
     match verdict {
         1 => 0,

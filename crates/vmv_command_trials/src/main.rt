@@ -9,9 +9,7 @@ use devices::Devices;
 use std::process::ExitCode;
 use trials::{Commands, Runner};
 use vmv_cases::run_cases;
-use vmv_command::run;
-use vmv_door::FaultlessDoor;
-use vmv_vault::FaultlessVault;
+use vmv_command::run_command;
 
 fn main(rt: HostRuntime) -> ExitCode {
     let alloc = rt.alloc();
@@ -20,18 +18,7 @@ fn main(rt: HostRuntime) -> ExitCode {
     };
     let command = move |words: Vec<String>, devices: Devices| {
         let Devices { mut shelf, mut out } = devices;
-        let Ok(mut door) = FaultlessDoor::new(alloc, Vec::new(alloc)) else {
-            return (out, 8);
-        };
-        let status = run(
-            &own,
-            alloc,
-            &words,
-            &mut shelf,
-            &mut out,
-            &mut FaultlessVault::new(),
-            &mut door,
-        );
+        let status = run_command(&own, alloc, &words, &mut shelf, &mut out);
         (out, status)
     };
     let Ok(boxed) = Box::new(alloc, command) else {

@@ -7,7 +7,7 @@ use Rattle.vmv_command.specs.Command.{usage}
 use Rattle.vmv_command.proofs.Verdict.{verdict_holds, nothing_said, some_front}
 use Rattle.vmv_command.proofs.Regression.{regression_printed}
 use Rattle.vmv_command.proofs.Rechecking.{accepted_holds}
-use Rattle.vmv_command.proofs.command.run.Goals as goal
+use Rattle.vmv_command.proofs.command.run_command.Goals as goal
 
 pub returns-in-Ok-None-clause-output : goal.returns-in-Ok-None-clause-output
 returns-in-Ok-None-clause-output g c whole =
