@@ -12,7 +12,8 @@ use Rattle.vmv_tree.specs.declared.tree.Param.{Param}
 use Rattle.vmv_tree.specs.Tree.{Item, Body, outside, helper, entry}
 use Rattle.vmv_snapshot.specs.Procs.{procs, is_entry}
 use Rattle.vmv_cert.specs.Thresholds.{IsEntryOf}
-use Rattle.vmv_thresholds.specs.Collect.{HaveSame, is_proc, IsPlaceOf, IsNumberOf}
+use Rattle.vmv_valid.specs.Same.{HaveSame}
+use Rattle.vmv_thresholds.specs.Collect.{is_proc, IsPlaceOf, IsNumberOf}
 use Rattle.vmv_snapshot.proofs.Links.{map_at}
 use Rattle.vmv_thresholds.proofs.Placed.{stands_there, take_items}
 

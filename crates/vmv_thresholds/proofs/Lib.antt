@@ -4,6 +4,5 @@ pub mod Among
 pub mod Placed
 pub mod Entries
 pub mod Ends
-pub mod Held
 pub mod Ordered
 pub mod Rounding

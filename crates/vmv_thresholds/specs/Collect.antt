@@ -1,5 +1,5 @@
 -- How the thresholds are collected. Private contracts alone cite these definitions.
-use Rattle.std.specs.Prelude.{◌≡◌, ◌↔◌, ℕ, ℤ, Bool, true, false, Some, List, [], ◌∷◌, ◌++◌, length, take, slice_get}
+use Rattle.std.specs.Prelude.{◌≡◌, ℕ, ℤ, Bool, true, false, Some, List, [], ◌∷◌, ◌++◌, length, take, slice_get}
 use Rattle.std.specs.List.{Contains}
 use Rattle.vmv_tree.specs.declared.name.Name.{Name}
 use Rattle.vmv_tree.specs.declared.tree.Param.{Param}
@@ -8,10 +8,6 @@ use Rattle.vmv_tree.specs.Limits.{entry_numbers}
 use Rattle.vmv_snapshot.specs.Procs.{procs}
 use Rattle.vmv_snapshot.specs.Reaches.{Reaches, ItemCalls}
 use Rattle.vmv_cert.specs.Thresholds.{IsEntryOf, around}
-
--- the same numbers, in any order and any number of times
-abbrev pub HaveSame : List ℤ → List ℤ → Type 0
-HaveSame xs ys = (n : ℤ) → Contains xs n ↔ Contains ys n
 
 abbrev pub is_proc : Item → Bool
 is_proc (outside name arity) = false

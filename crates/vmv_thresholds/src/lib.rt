@@ -3,7 +3,6 @@
 
 mod calls;
 mod laws;
-mod numbers;
 mod place;
 mod seeds;
 mod thresholds;

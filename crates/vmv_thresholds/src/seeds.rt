@@ -6,11 +6,11 @@ ghost use Rattle.vmv_cert.specs.Thresholds.{ReachesOutside, IsEndOf, IsSeed};
 ghost use Rattle.vmv_thresholds.specs.Collect.{IsNumberOf};
 
 use crate::calls::reaches_outside;
-use crate::numbers::entry_numbers;
 use crate::place::place_of;
 use std::alloc::{AllocError, Global};
 use vmv_snapshot::{ProcId, Snapshot};
 use vmv_tree::{Item, NameEnds};
+use vmv_valid::reached_numbers;
 
 /// The literals, caps and range ends of an entry and of the helpers that it reaches.
 fn numbers_of(alloc: Global, snapshot: &Snapshot, entry: ProcId) -> Result<Vec<i64>, AllocError>
@@ -22,7 +22,7 @@ fn numbers_of(alloc: Global, snapshot: &Snapshot, entry: ProcId) -> Result<Vec<i
     let Item::Entry { params, body, .. } = &items[place] else {
         return Ok(Vec::new(alloc));
     };
-    entry_numbers(alloc, &items[..place], params.as_slice(), body)
+    reached_numbers(alloc, &items[..place], params.as_slice(), body)
 }
 
 /// Adds the ends of a name, where it is an outside one that the entry reaches.

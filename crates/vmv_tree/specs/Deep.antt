@@ -1,5 +1,5 @@
 -- What is told of programs in which blocks stand too deep in one another. Numbers above 1,000,000,000 are told as that.
-use Rattle.std.specs.Prelude.{◌≡◌, ℕ, ◌<◌, min, Bool, true, false, List, ◌∷◌, ◌++◌, map}
+use Rattle.std.specs.Prelude.{◌≡◌, ◌<◌, min, Bool, true, false, List, ◌∷◌, ◌++◌, map}
 use Rattle.vmv_tree.specs.declared.deep.ItemCounts.{ItemCounts}
 use Rattle.vmv_tree.specs.declared.deep.DeepProcedure.{DeepProcedure}
 use Rattle.vmv_tree.specs.declared.deep.DeepProgram.{DeepProgram}

@@ -13,15 +13,16 @@ pub struct Name {
 }
 
 impl Model for Name {
-    ghost use Rattle.std.specs.Prelude.{◌≡◌, ℕ, ◌-◌, ◌≤◌, List, ◌++◌, length, take, replicate};
+    ghost use Rattle.std.specs.Prelude.{◌≡◌, ℕ, ◌-◌, ◌≤◌, List, ◌++◌, length, take, replicate, IsTrue};
     ghost use Rattle.std.proofs.Common.{sym};
     ghost use Rattle.vmv_tree.specs.Bytes.{padded, length-padded_take};
+    ghost use Rattle.vmv_tree.specs.Names.{is_name};
 
     ghost Value = { List ℕ };
 
     ghost view = { λ n. take n.len n.bytes };
 
-    ghost invariant = { λ n. (n.len ≤ 64) × (n.bytes ≡ padded (take n.len n.bytes)) };
+    ghost invariant = { λ n. (n.len ≤ 64) × (n.bytes ≡ padded (take n.len n.bytes)) × IsTrue (is_name (take n.len n.bytes)) };
 
     ghost inverse = { λ v. record { bytes = padded v; len = length v } };
 
@@ -153,9 +154,10 @@ impl Name {
         })
     }
 
-    /// Its bytes.
+    /// Its bytes, which are a name's.
     pub fn bytes(&self) -> &[u8]
-        ensures { result.now ≡ self.now }
+        ensures value { result.now ≡ self.now }
+        ensures named { IsTrue (is_name self.now) }
     {
         &self.bytes[..self.len as usize]
     }

@@ -8,3 +8,4 @@ pub mod NextItem
 pub mod Distinct
 pub mod Reached
 mod TooDeep
+mod Held

@@ -1,27 +1,24 @@
 -- The walk over a program that has a procedure whose blocks stand too deep in one another.
 use Rattle.std.proofs.Common.{OnOk, ◌≡◌, ℕ, ◌+◌, ◌<◌, min, nat_lt, Bool, true, false, Ok, Err, List, [], ◌∷◌, ◌++◌, length, map, reverse, refl, sym, ap, ◌∙◌, subst, arith, append-nil, append_assoc, if◌then◌else◌}
-use Rattle.std.specs.Bool.{Decides}
 use Rattle.std.proofs.lemmas.Bool.Decides.{Decides-ltb}
 use Rattle.std.proofs.lemmas.List.{reverse-append, length-map}
 use Rattle.vmv_tree.specs.declared.deep.ItemCounts.{ItemCounts}
 use Rattle.vmv_tree.specs.declared.deep.DeepProcedure.{DeepProcedure}
 use Rattle.vmv_tree.specs.declared.deep.DeepProgram.{DeepProgram}
-use Rattle.vmv_tree.specs.declared.defect.Defect.{Defect}
 use Rattle.vmv_tree.specs.declared.defect.Defect.TheVariants.{Limit, Repeated}
 use Rattle.vmv_tree.specs.declared.name.Name.{Name}
 use Rattle.vmv_tree.specs.Deep.{IsSized, IsDeep, IsDeepProgram}
 use Rattle.vmv_tree.specs.declared.tree.Item.{Item as CodeItem}
 use Rattle.vmv_tree.specs.Tree.{Body, Item, outside, helper, entry}
 use Rattle.vmv_tree.specs.View.{items_of}
-use Rattle.vmv_tree.specs.Limits.{helper_count, entry_count, block_nesting, entry_numbers, distinct}
+use Rattle.vmv_tree.specs.Limits.{helper_count, entry_count, entry_numbers, distinct}
 use Rattle.vmv_tree.specs.Run.{name_of}
 use Rattle.vmv_valid.specs.Names.{is_among}
-use Rattle.vmv_valid.specs.declared.measure.Measures.{Measures}
 use Rattle.vmv_valid.specs.declared.stop.Stop.{Stop}
 use Rattle.vmv_valid.specs.declared.stop.Stop.TheVariants.{Found, Memory}
 use Rattle.vmv_valid.specs.Callees.{capped_sum, capped_product}
 use Rattle.vmv_valid.specs.Measures.{measured_all, callees_of}
-use Rattle.vmv_valid.specs.Walks.{Walked, Answers, and_on, defect_at, walk_kind, walk_within, walk_limits, walk_names, walk_params, walk_body, walk_entry_limits, walk_item, walk_items, walk_deep_kind, walk_deep}
+use Rattle.vmv_valid.specs.Walks.{Walked, Answers, and_on, defect_at, walk_kind, walk_within, walk_limits, walk_names, walk_params, walk_body, walk_entry_limits, walk_item, walk_items, walk_deep}
 use Rattle.vmv_valid.proofs.PlacedItems.{body_capped}
 
 -- the limits of a procedure that is too deep

@@ -3,3 +3,4 @@ pub mod Callees
 pub mod Measures
 pub mod Numbers
 pub mod Walks
+pub mod Same

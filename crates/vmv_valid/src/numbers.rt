@@ -2,6 +2,7 @@ ghost use Rattle.std.specs.Prelude.{◌≡◌, ◌+◌, ◌≤◌, ◌++◌, ◌
 ghost use Rattle.vmv_tree.specs.View.{stmt_of, block_of, body_of, item_of, items_of};
 ghost use Rattle.vmv_tree.specs.Limits.{operand_numbers, args_numbers, block_numbers, body_numbers, range_ends, entry_numbers, distinct};
 ghost use Rattle.vmv_valid.specs.Names.{is_among};
+ghost use Rattle.vmv_valid.specs.Same.{HaveSame};
 ghost use Rattle.vmv_valid.specs.Numbers.{no_numbers, own_numbers, called, block_called, without, numbers_after, called_after, reached_by, changes};
 
 use crate::callee::CAP;
@@ -141,10 +142,9 @@ fn range_ends(alloc: Global, params: &[Param]) -> Result<Vec<i64>, AllocError>
     Ok(ends)
 }
 
-/// The literals, caps and range ends of an entry and of the helpers that it reaches among the items above it, each helper
-/// once. A number may stand there more than once. It fails for want of memory alone.
+/// The numbers of an entry and of the helpers that it reaches among the items above it, each helper once.
 #[tactic(auto, using(crate::proofs::Walking::walking))]
-pub fn reached_numbers(
+fn gathered_numbers(
     alloc: Global,
     above: &[Item],
     params: &[Param],
@@ -161,6 +161,19 @@ pub fn reached_numbers(
         visit(&mut numbers, &mut names, &above[left])?;
     }
     Ok(numbers)
+}
+
+/// The literals, caps and range ends of an entry and of the helpers that it reaches among the items above it. A number may
+/// stand there more than once. It fails for want of memory alone.
+pub fn reached_numbers(
+    alloc: Global,
+    above: &[Item],
+    params: &[Param],
+    body: &Body,
+) -> Result<Vec<i64>, AllocError>
+    ensures { IfOk result (λ numbers. HaveSame numbers.items (entry_numbers (reverse (items_of above.now)) params.now (body_of body.now))) }
+{
+    gathered_numbers(alloc, above, params, body)
 }
 
 /// How many of these differ from the one before, the first of them from this.
@@ -188,7 +201,7 @@ pub(crate) fn distinct_numbers(
 ) -> Result<u64, AllocError>
     ensures { IfOk result (λ count. count ≡ min (distinct (entry_numbers (reverse (items_of above.now)) params.now (body_of body.now))) 1000000000) }
 {
-    let mut numbers = reached_numbers(alloc, above, params, body)?;
+    let mut numbers = gathered_numbers(alloc, above, params, body)?;
     Ok((distinct(numbers.as_mut_slice()) as u64).min(CAP))
 }
 

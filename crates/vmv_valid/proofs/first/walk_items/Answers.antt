@@ -1,5 +1,4 @@
 use Rattle.std.proofs.Common.{arith}
-use Rattle.vmv_tree.specs.View.{items_of}
 use Rattle.vmv_valid.proofs.NextItem.{told_more, callees_more, room_kept, few_above}
 use Rattle.vmv_valid.proofs.first.walk_items.Goals as goal
 use Rattle.std.proofs.Common.{◌∙◌}

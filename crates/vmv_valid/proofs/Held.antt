@@ -6,7 +6,7 @@ use Rattle.std.proofs.lemmas.Bool.Decides.{Decides-int_eq}
 use Rattle.std.proofs.lemmas.Map.Views.{list_any-from_Contains, Contains-from_any}
 use Rattle.vmv_valid.proofs.Distinct as tests
 use Rattle.vmv_valid.proofs.Distinct.{holds}
-use Rattle.vmv_thresholds.specs.Collect.{HaveSame}
+use Rattle.vmv_valid.specs.Same.{HaveSame}
 
 -- a test finds the elements of a list
 pub held : (xs : List ℤ) (n : ℤ) → (holds n xs ≡ true) ↔ Contains xs n

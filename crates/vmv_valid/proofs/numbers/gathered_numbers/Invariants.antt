@@ -1,7 +1,7 @@
 use Rattle.std.proofs.Common.{◌≡◌, ◌≤◌, length, take, reverse}
 use Rattle.vmv_tree.specs.View.{body_of, items_of}
 use Rattle.vmv_valid.specs.Numbers.{reached, reached_by}
-use Rattle.vmv_valid.proofs.numbers.reached_numbers.Given as goal
+use Rattle.vmv_valid.proofs.numbers.gathered_numbers.Given as goal
 
 -- what is reached over the items that are left is what is reached over all
 abbrev pub invariant-loop-left : goal.invariant-loop-left
