@@ -5,6 +5,7 @@ use Rattle.vmv_print.specs.Written.{IsName}
 use Rattle.vmv_print.proofs.lists.push_more_names.Given as goal
 
 abbrev pub invariant-loop-name : goal.invariant-loop-name
-invariant-loop-name l =
-    (l.out.items ++ after_commas (λ x. x) (drop l.name-index l.names) ≡ l.fn.out.items ++ after_commas (λ x. x) l.names)
-    × (All IsName (drop l.name-index l.names) → All IsName l.names)
+invariant-loop-name l = record {
+  text : l.out.items ++ after_commas (λ x. x) (drop l.name-index l.names) ≡ l.fn.out.items ++ after_commas (λ x. x) l.names;
+  written : All IsName (drop l.name-index l.names) → All IsName l.names;
+}
