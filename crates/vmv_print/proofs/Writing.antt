@@ -1,4 +1,4 @@
--- What the writers know of each part, of the whole: that it can be written.
+-- What is written of each part, and that it can be written, of the whole.
 use Rattle.std.proofs.Common.{◌≡◌, ℕ, ◌+◌, ◌<◌, ◌≤◌, List, [], ◌∷◌, ◌++◌, append_assoc, length, get_or, drop, drop-cons, add-one, refl, sym, ap, ◌∙◌, subst}
 use Rattle.std.specs.Prelude.{ℤ, Result, Ok, Err, OnOk, codes, All}
 use Rattle.std.specs.Fmt.{signed_decimal}

@@ -3,7 +3,7 @@ ghost use Rattle.vmv_tree.specs.View.{program_of};
 ghost use Rattle.vmv_text.specs.Grammar.{IsText};
 ghost use Rattle.vmv_snapshot.specs.Resolution.{tree_of};
 ghost use Rattle.vmv_print.specs.Canonical.{canonical};
-ghost use Rattle.vmv_print.specs.Written.{HasCounts, IsWritten};
+ghost use Rattle.vmv_print.specs.Written.{HasCounts};
 
 use crate::item::push_items;
 use std::alloc::{AllocError, Global};
@@ -14,11 +14,11 @@ use vmv_tree::Program;
 /// The canonical text of a program.
 ///
 /// Each item and each statement stands on a line of its own, each level indented by two spaces, with single spaces between
-/// what needs them, and an else part only where it isn't empty. The text may be longer than a reader takes. The only
-/// error is want of memory.
+/// what needs them, and an else part only where it isn't empty. It is a text of that program wherever its arities and caps
+/// are 0 or more; it may be longer than a reader takes. The only error is want of memory.
 pub fn print_program(alloc: Global, program: &Program) -> Result<Text, AllocError>
     ensures canonical { IfOk result (λ text. text ≡ canonical (program_of program.now)) }
-    ensures written { IfOk result (λ _. HasCounts (program_of program.now) → IsWritten (program_of program.now)) }
+    ensures written { HasCounts (program_of program.now) → IfOk result (λ text. IsText text (program_of program.now)) }
 {
     let mut out = Vec::new(alloc);
     push_items(alloc, &mut out, program.items.as_slice())?;
