@@ -4,3 +4,4 @@ pub mod TreeTokens
 pub mod Derived
 pub mod Saying
 pub mod Printed
+pub mod Writing

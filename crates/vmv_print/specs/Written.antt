@@ -48,6 +48,29 @@ IsWrittenItem (outside f arity) = IsName f × IsCount arity
 IsWrittenItem (helper f params body) = IsName f × All IsName params × IsWrittenBody body
 IsWrittenItem (entry f params body) = IsName f × All IsWrittenParam params × IsWrittenBody body
 
+unfoldable mutual
+  -- each cap in it is a count
+  pub HasCountsStmt : Stmt → Type 0
+  HasCountsStmt (copy to from) = Unit {0}
+  HasCountsStmt (compute to op left right) = Unit {0}
+  HasCountsStmt (call to callee args) = Unit {0}
+  HasCountsStmt (assert test) = Unit {0}
+  HasCountsStmt (choose test first second) = HasCountsBlock first × HasCountsBlock second
+  HasCountsStmt (repeat index bound most body) = IsCount most × HasCountsBlock body
+
+  pub HasCountsBlock : Block → Type 0
+  HasCountsBlock [] = Unit {0}
+  HasCountsBlock (s ⨾ block) = HasCountsStmt s × HasCountsBlock block
+
+abbrev pub HasCountsItem : Item → Type 0
+HasCountsItem (outside f arity) = IsCount arity
+HasCountsItem (helper f params body) = HasCountsBlock body.block
+HasCountsItem (entry f params body) = HasCountsBlock body.block
+
+-- each arity and each cap is a count
+abbrev pub HasCounts : List Item → Type 0
+HasCounts program = All HasCountsItem program
+
 -- each name is one, each literal and each end of a range is a word, and each arity and each cap is a count
 abbrev pub IsWritten : List Item → Type 0
 IsWritten program = All IsWrittenItem program

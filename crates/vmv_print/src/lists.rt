@@ -1,5 +1,6 @@
-ghost use Rattle.std.specs.Prelude.{◌≡◌, ◌++◌, OnOk, codes};
+ghost use Rattle.std.specs.Prelude.{◌≡◌, ◌++◌, OnOk, codes, All};
 ghost use Rattle.vmv_print.specs.Canonical.{operand_text, param_text, after_commas, listed, names_text};
+ghost use Rattle.vmv_print.specs.Written.{IsName, IsWrittenOperand, IsWrittenParam};
 
 use crate::operand::{push_name, push_number, push_operand};
 use std::alloc::{AllocError, Global};
@@ -12,7 +13,8 @@ fn push_comma(out: &mut Vec<u8>) -> Result<(), AllocError>
 }
 
 fn push_more_names(out: &mut Vec<u8>, names: &[Name]) -> Result<(), AllocError>
-    ensures { OnOk result (out.new.items ≡ out.old.items ++ after_commas (λ x. x) names.now) }
+    ensures text { OnOk result (out.new.items ≡ out.old.items ++ after_commas (λ x. x) names.now) }
+    ensures written { OnOk result (All IsName names.now) }
 {
     for name in names {
         push_comma(out)?;
@@ -23,7 +25,8 @@ fn push_more_names(out: &mut Vec<u8>, names: &[Name]) -> Result<(), AllocError>
 
 /// Writes names with a comma and a space between each two.
 pub(crate) fn push_names(out: &mut Vec<u8>, names: &[Name]) -> Result<(), AllocError>
-    ensures { OnOk result (out.new.items ≡ out.old.items ++ names_text names.now) }
+    ensures text { OnOk result (out.new.items ≡ out.old.items ++ names_text names.now) }
+    ensures written { OnOk result (All IsName names.now) }
 {
     match names {
         [] => Ok(()),
@@ -35,7 +38,8 @@ pub(crate) fn push_names(out: &mut Vec<u8>, names: &[Name]) -> Result<(), AllocE
 }
 
 fn push_more_args(alloc: Global, out: &mut Vec<u8>, args: &[Operand]) -> Result<(), AllocError>
-    ensures { OnOk result (out.new.items ≡ out.old.items ++ after_commas operand_text args.now) }
+    ensures text { OnOk result (out.new.items ≡ out.old.items ++ after_commas operand_text args.now) }
+    ensures written { OnOk result (All IsWrittenOperand args.now) }
 {
     for arg in args {
         push_comma(out)?;
@@ -50,7 +54,8 @@ pub(crate) fn push_args(
     out: &mut Vec<u8>,
     args: &[Operand],
 ) -> Result<(), AllocError>
-    ensures { OnOk result (out.new.items ≡ out.old.items ++ listed operand_text args.now) }
+    ensures text { OnOk result (out.new.items ≡ out.old.items ++ listed operand_text args.now) }
+    ensures written { OnOk result (All IsWrittenOperand args.now) }
 {
     match args {
         [] => Ok(()),
@@ -63,7 +68,8 @@ pub(crate) fn push_args(
 
 /// Writes a parameter with its range.
 fn push_param(alloc: Global, out: &mut Vec<u8>, param: &Param) -> Result<(), AllocError>
-    ensures { OnOk result (out.new.items ≡ out.old.items ++ param_text param.now) }
+    ensures text { OnOk result (out.new.items ≡ out.old.items ++ param_text param.now) }
+    ensures written { OnOk result (IsWrittenParam param.now) }
 {
     push_name(out, &param.name)?;
     out.extend_from_slice(b": ")?;
@@ -73,7 +79,8 @@ fn push_param(alloc: Global, out: &mut Vec<u8>, param: &Param) -> Result<(), All
 }
 
 fn push_more_params(alloc: Global, out: &mut Vec<u8>, params: &[Param]) -> Result<(), AllocError>
-    ensures { OnOk result (out.new.items ≡ out.old.items ++ after_commas param_text params.now) }
+    ensures text { OnOk result (out.new.items ≡ out.old.items ++ after_commas param_text params.now) }
+    ensures written { OnOk result (All IsWrittenParam params.now) }
 {
     for param in params {
         push_comma(out)?;
@@ -88,7 +95,8 @@ pub(crate) fn push_params(
     out: &mut Vec<u8>,
     params: &[Param],
 ) -> Result<(), AllocError>
-    ensures { OnOk result (out.new.items ≡ out.old.items ++ listed param_text params.now) }
+    ensures text { OnOk result (out.new.items ≡ out.old.items ++ listed param_text params.now) }
+    ensures written { OnOk result (All IsWrittenParam params.now) }
 {
     match params {
         [] => Ok(()),

@@ -1,6 +1,7 @@
 ghost use Rattle.std.specs.Prelude.{◌≡◌, ◌++◌, OnOk};
 ghost use Rattle.std.specs.Fmt.{signed_decimal};
 ghost use Rattle.vmv_print.specs.Canonical.{operand_text, op_text, rel_text, spaced, test_text};
+ghost use Rattle.vmv_print.specs.Written.{IsName, IsWrittenOperand, IsWrittenTest};
 
 use std::alloc::{AllocError, Global};
 use vmv_tree::{Name, Op, Operand, Rel, Test};
@@ -14,7 +15,8 @@ pub(crate) fn push_number(alloc: Global, out: &mut Vec<u8>, number: i64) -> Resu
 }
 
 pub(crate) fn push_name(out: &mut Vec<u8>, name: &Name) -> Result<(), AllocError>
-    ensures { OnOk result (out.new.items ≡ out.old.items ++ name.now) }
+    ensures text { OnOk result (out.new.items ≡ out.old.items ++ name.now) }
+    ensures written { OnOk result (IsName name.now) }
 {
     out.extend_from_slice(name.bytes())
 }
@@ -24,7 +26,8 @@ pub(crate) fn push_operand(
     out: &mut Vec<u8>,
     operand: &Operand,
 ) -> Result<(), AllocError>
-    ensures { OnOk result (out.new.items ≡ out.old.items ++ operand_text operand.now) }
+    ensures text { OnOk result (out.new.items ≡ out.old.items ++ operand_text operand.now) }
+    ensures written { OnOk result (IsWrittenOperand operand.now) }
 {
     match operand {
         Operand::Lit(number) => push_number(alloc, out, *number),
@@ -60,7 +63,8 @@ fn spaced_rel(rel: Rel) -> &'static [u8]
 }
 
 pub(crate) fn push_test(alloc: Global, out: &mut Vec<u8>, test: &Test) -> Result<(), AllocError>
-    ensures { OnOk result (out.new.items ≡ out.old.items ++ test_text test.now) }
+    ensures text { OnOk result (out.new.items ≡ out.old.items ++ test_text test.now) }
+    ensures written { OnOk result (IsWrittenTest test.now) }
 {
     push_operand(alloc, out, &test.left)?;
     out.extend_from_slice(spaced_rel(test.rel))?;

@@ -1,7 +1,8 @@
-ghost use Rattle.std.specs.Prelude.{◌≡◌, ◌++◌, OnOk, IfOk, codes};
+ghost use Rattle.std.specs.Prelude.{◌≡◌, ◌++◌, OnOk, IfOk, codes, All};
 ghost use Rattle.std.specs.Fmt.{signed_decimal};
 ghost use Rattle.vmv_tree.specs.View.{stmt_of, block_of};
 ghost use Rattle.vmv_print.specs.Canonical.{operand_text, op_text, spaced, test_text, listed, deeper, line, else_line, stmt_text, block_text};
+ghost use Rattle.vmv_print.specs.Written.{HasCountsBlock, HasCountsStmt, IsName, IsWrittenBlock, IsWrittenOperand, IsWrittenStmt, IsWrittenTest};
 
 use crate::lists::push_args;
 use crate::operand::{push_name, push_number, push_operand, push_test, spaced_op};
@@ -19,7 +20,8 @@ pub(crate) fn deeper(alloc: Global, indent: &[u8]) -> Result<Vec<u8>, AllocError
 
 /// Begins the line of an assignment.
 fn push_target(out: &mut Vec<u8>, indent: &[u8], to: &Name) -> Result<(), AllocError>
-    ensures { OnOk result (out.new.items ≡ out.old.items ++ indent.now ++ to.now ++ codes " = ") }
+    ensures text { OnOk result (out.new.items ≡ out.old.items ++ indent.now ++ to.now ++ codes " = ") }
+    ensures written { OnOk result (IsName to.now) }
 {
     out.extend_from_slice(indent)?;
     push_name(out, to)?;
@@ -34,7 +36,8 @@ fn push_set(
     to: &Name,
     from: &Operand,
 ) -> Result<(), AllocError>
-    ensures { OnOk result (out.new.items ≡ out.old.items ++ line indent.now (to.now ++ codes " = " ++ operand_text from.now ++ codes ";")) }
+    ensures text { OnOk result (out.new.items ≡ out.old.items ++ line indent.now (to.now ++ codes " = " ++ operand_text from.now ++ codes ";")) }
+    ensures written { OnOk result (IsName to.now × IsWrittenOperand from.now) }
 {
     push_target(out, indent, to)?;
     push_operand(alloc, out, from)?;
@@ -49,7 +52,8 @@ fn push_operation(
     left: &Operand,
     right: &Operand,
 ) -> Result<(), AllocError>
-    ensures { OnOk result (out.new.items ≡ out.old.items ++ operand_text left.now ++ spaced (op_text op) ++ operand_text right.now) }
+    ensures text { OnOk result (out.new.items ≡ out.old.items ++ operand_text left.now ++ spaced (op_text op) ++ operand_text right.now) }
+    ensures written { OnOk result (IsWrittenOperand left.now × IsWrittenOperand right.now) }
 {
     push_operand(alloc, out, left)?;
     out.extend_from_slice(spaced_op(op))?;
@@ -67,7 +71,8 @@ fn push_arith(
     left: &Operand,
     right: &Operand,
 ) -> Result<(), AllocError>
-    ensures { OnOk result (out.new.items ≡ out.old.items ++ line indent.now (to.now ++ codes " = " ++ operand_text left.now ++ spaced (op_text op) ++ operand_text right.now ++ codes ";")) }
+    ensures text { OnOk result (out.new.items ≡ out.old.items ++ line indent.now (to.now ++ codes " = " ++ operand_text left.now ++ spaced (op_text op) ++ operand_text right.now ++ codes ";")) }
+    ensures written { OnOk result (IsName to.now × IsWrittenOperand left.now × IsWrittenOperand right.now) }
 {
     push_target(out, indent, to)?;
     push_operation(alloc, out, op, left, right)?;
@@ -84,7 +89,8 @@ fn push_call(
     callee: &Name,
     args: &[Operand],
 ) -> Result<(), AllocError>
-    ensures { OnOk result (out.new.items ≡ out.old.items ++ line indent.now (to.now ++ codes " = " ++ callee.now ++ codes "(" ++ listed operand_text args.now ++ codes ");")) }
+    ensures text { OnOk result (out.new.items ≡ out.old.items ++ line indent.now (to.now ++ codes " = " ++ callee.now ++ codes "(" ++ listed operand_text args.now ++ codes ");")) }
+    ensures written { OnOk result (IsName to.now × IsName callee.now × All IsWrittenOperand args.now) }
 {
     push_target(out, indent, to)?;
     push_name(out, callee)?;
@@ -100,7 +106,8 @@ fn push_assert(
     indent: &[u8],
     test: &Test,
 ) -> Result<(), AllocError>
-    ensures { OnOk result (out.new.items ≡ out.old.items ++ line indent.now (codes "assert " ++ test_text test.now ++ codes ";")) }
+    ensures text { OnOk result (out.new.items ≡ out.old.items ++ line indent.now (codes "assert " ++ test_text test.now ++ codes ";")) }
+    ensures written { OnOk result (IsWrittenTest test.now) }
 {
     out.extend_from_slice(indent)?;
     out.extend_from_slice(b"assert ")?;
@@ -110,7 +117,8 @@ fn push_assert(
 
 /// Writes the line that opens an `if`.
 fn push_if(alloc: Global, out: &mut Vec<u8>, indent: &[u8], test: &Test) -> Result<(), AllocError>
-    ensures { OnOk result (out.new.items ≡ out.old.items ++ line indent.now (codes "if " ++ test_text test.now ++ codes " {")) }
+    ensures text { OnOk result (out.new.items ≡ out.old.items ++ line indent.now (codes "if " ++ test_text test.now ++ codes " {")) }
+    ensures written { OnOk result (IsWrittenTest test.now) }
 {
     out.extend_from_slice(indent)?;
     out.extend_from_slice(b"if ")?;
@@ -137,7 +145,8 @@ fn push_range(
     index: &Name,
     bound: &Operand,
 ) -> Result<(), AllocError>
-    ensures { OnOk result (out.new.items ≡ out.old.items ++ (index.now ++ codes " to " ++ operand_text bound.now)) }
+    ensures text { OnOk result (out.new.items ≡ out.old.items ++ (index.now ++ codes " to " ++ operand_text bound.now)) }
+    ensures written { OnOk result (IsName index.now × IsWrittenOperand bound.now) }
 {
     push_name(out, index)?;
     out.extend_from_slice(b" to ")?;
@@ -162,7 +171,8 @@ fn push_repeat(
     bound: &Operand,
     cap: i64,
 ) -> Result<(), AllocError>
-    ensures { OnOk result (out.new.items ≡ out.old.items ++ line indent.now (codes "repeat " ++ index.now ++ codes " to " ++ operand_text bound.now ++ codes " cap " ++ signed_decimal cap ++ codes " {")) }
+    ensures text { OnOk result (out.new.items ≡ out.old.items ++ line indent.now (codes "repeat " ++ index.now ++ codes " to " ++ operand_text bound.now ++ codes " cap " ++ signed_decimal cap ++ codes " {")) }
+    ensures written { OnOk result (IsName index.now × IsWrittenOperand bound.now) }
 {
     out.extend_from_slice(indent)?;
     out.extend_from_slice(b"repeat ")?;
@@ -187,7 +197,8 @@ pub(crate) fn push_stmt(
     indent: &[u8],
     stmt: &Stmt,
 ) -> Result<(), AllocError>
-    ensures { OnOk result (out.new.items ≡ out.old.items ++ stmt_text indent.now (stmt_of stmt.now)) }
+    ensures text { OnOk result (out.new.items ≡ out.old.items ++ stmt_text indent.now (stmt_of stmt.now)) }
+    ensures written { OnOk result (HasCountsStmt (stmt_of stmt.now) → IsWrittenStmt (stmt_of stmt.now)) }
 {
     match stmt {
         Stmt::Set { to, from } => push_set(alloc, out, indent, to, from),
@@ -236,7 +247,8 @@ pub(crate) fn push_block(
     indent: &[u8],
     block: &[Stmt],
 ) -> Result<(), AllocError>
-    ensures { OnOk result (out.new.items ≡ out.old.items ++ block_text indent.now (block_of block.now)) }
+    ensures text { OnOk result (out.new.items ≡ out.old.items ++ block_text indent.now (block_of block.now)) }
+    ensures written { OnOk result (HasCountsBlock (block_of block.now) → IsWrittenBlock (block_of block.now)) }
 {
     for stmt in block {
         push_stmt(alloc, out, indent, stmt)?;

@@ -8,4 +8,4 @@ pub returns : goal.returns
 returns g c =
     let four = vacuous_four c.baselines_are_unique.ensures c.args.found.now c.args.revision.now c.in_ok-report.report c.base-base.ensures.found c.in_ok-report.ensures c.requires.vacuous in
     let text = c.in_ok-text.ensures ∙ ap (λ (b : Resolution). report_text c.in_ok-report.report b c.args.revision.now) c.base-base.ensures.base in
-    (c.in_ok-report.report, c.in_ok-report.ensures, inl (four, (text, c.status_of.ensures)))
+    (c.in_ok-report.report, c.in_ok-report.ensures, inl (four, (text, c.status_of.ensures.same)))

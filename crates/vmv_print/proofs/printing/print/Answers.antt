@@ -5,7 +5,4 @@ use Rattle.vmv_print.proofs.printing.print.Goals as goal
 
 pub returns-clause-read_again : goal.returns-clause-read_again
 returns-clause-read_again c = λ bytes text.
-    printed_read c.print_program.result (tree_of c.args.snapshot.now) (text_written bytes (tree_of c.args.snapshot.now) text) (rw c.program.ensures.program at c.print_program.ensures)
-
-pub returns-clause-written : goal.returns-clause-written
-returns-clause-written c = λ written. printed_read c.print_program.result (tree_of c.args.snapshot.now) written (rw c.program.ensures.program at c.print_program.ensures)
+    printed_read c.print_program.result (tree_of c.args.snapshot.now) (text_written bytes (tree_of c.args.snapshot.now) text) (rw c.program.ensures.program at c.print_program.ensures.canonical)
