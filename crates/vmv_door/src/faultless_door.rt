@@ -1,4 +1,4 @@
-ghost use Rattle.std.specs.Prelude.{◌≡◌, ◌↔◌, ◌+◌, ◌<◌, [], true, false, Some, None, Ok, IfOk, IsOk};
+ghost use Rattle.std.specs.Prelude.{◌≡◌, ◌↔◌, ◌+◌, ◌<◌, [], true, false, length, Some, None, Ok, IfOk, IsOk};
 ghost use Rattle.vmv_door.specs.Links.{IsGiven, count_of, with_back};
 ghost use Rattle.vmv_door.specs.Forms.{whole_links, is_whole_open, no_whole_left, whole_given, whole_back};
 
@@ -27,6 +27,27 @@ impl FaultlessDoor {
             queue: Queue::new(alloc, links)?,
             listening: false,
         })
+    }
+
+    /// The links that were given back, in their order.
+    pub fn back(&self) -> &[FaultlessLink]
+        ensures { result.now ≡ (whole_links self.now).back }
+    {
+        self.queue.back()
+    }
+
+    /// How many links are still to be given.
+    pub fn left(&self) -> usize
+        ensures { result ≡ length (whole_links self.now).left }
+    {
+        self.queue.len()
+    }
+
+    /// Whether the last `listen` was answered Ok.
+    pub fn listens(&self) -> bool
+        ensures { result ≡ is_whole_open self.now }
+    {
+        self.listening
     }
 }
 

@@ -38,6 +38,27 @@ impl MemoryDoor {
             calls: Calls::new(failing),
         })
     }
+
+    /// The links that were given back, in their order.
+    pub fn back(&self) -> &[MemoryLink]
+        ensures { result.now ≡ (door_links self.now).back }
+    {
+        self.queue.back()
+    }
+
+    /// How many links are still to be given.
+    pub fn left(&self) -> usize
+        ensures { result ≡ length (door_links self.now).left }
+    {
+        self.queue.len()
+    }
+
+    /// Whether the last `listen` was answered Ok.
+    pub fn listens(&self) -> bool
+        ensures { result ≡ is_open self.now }
+    {
+        self.listening
+    }
 }
 
 impl Door for MemoryDoor {

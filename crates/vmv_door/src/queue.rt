@@ -36,6 +36,13 @@ impl<L: Drop> Queue<L> {
         self.left.len()
     }
 
+    // The links that were taken back.
+    pub(crate) fn back(&self) -> &[L]
+        ensures { result.now ≡ self.now.back.items }
+    {
+        self.back.as_slice()
+    }
+
     // Gives the next link.
     pub(crate) fn next(&mut self) -> Option<L>
         ensures given { self.old.left.items ≡ option_to_list result ++ self.new.left.items }
