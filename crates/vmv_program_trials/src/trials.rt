@@ -124,6 +124,7 @@ impl<'a, R: Threads + Shared + Sync> Trial for Programs<'a, R> {
         let Some(ask) = Ask::read(ask) else {
             return sheet.refuse();
         };
+        self.rt.shared();
         let done = if ask.is_whole {
             self.put_whole(alloc, case, &ask, sheet)
         } else {
