@@ -69,54 +69,52 @@ fn put_door(listens: bool, links: usize, left: usize, back: usize, sheet: &mut S
     sheet.put(b"\n");
 }
 
-impl<'a, R: Threads + Shared + Sync> Programs<'a, R> {
-    /// Does what an ask says over things of which some calls fail.
-    fn put_failing(
-        &self,
-        alloc: Global,
-        case: &Case,
-        ask: &Ask,
-        sheet: &mut Sheet,
-    ) -> Result<(), AllocError> {
-        let words = words_of(alloc, ask.words)?;
-        let mut devices = in_memory(alloc, case, ask, &words, sheet)?;
-        put_statuses(self.rt, alloc, &words, ask.times, &mut devices, sheet);
-        let door = &devices.door;
-        put_door(
-            door.listens(),
-            devices.links,
-            door.left(),
-            door.back().len(),
-            sheet,
-        );
-        put_printed(Some(devices.out.bytes()), sheet);
-        put_links(door.back(), sheet);
-        Ok(())
-    }
+/// Does what an ask says over things of which some calls fail.
+fn put_failing<R: Threads + Shared + Sync>(
+    rt: &R,
+    alloc: Global,
+    case: &Case,
+    ask: &Ask,
+    sheet: &mut Sheet,
+) -> Result<(), AllocError> {
+    let words = words_of(alloc, ask.words)?;
+    let mut devices = in_memory(alloc, case, ask, &words, sheet)?;
+    put_statuses(rt, alloc, &words, ask.times, &mut devices, sheet);
+    let door = &devices.door;
+    put_door(
+        door.listens(),
+        devices.links,
+        door.left(),
+        door.back().len(),
+        sheet,
+    );
+    put_printed(Some(devices.out.bytes()), sheet);
+    put_links(door.back(), sheet);
+    Ok(())
+}
 
-    /// Does what an ask says over things that never fail.
-    fn put_whole(
-        &self,
-        alloc: Global,
-        case: &Case,
-        ask: &Ask,
-        sheet: &mut Sheet,
-    ) -> Result<(), AllocError> {
-        let words = words_of(alloc, ask.words)?;
-        let mut devices = faultless(alloc, case, &words, sheet)?;
-        put_statuses(self.rt, alloc, &words, ask.times, &mut devices, sheet);
-        let door = &devices.door;
-        put_door(
-            door.listens(),
-            devices.links,
-            door.left(),
-            door.back().len(),
-            sheet,
-        );
-        put_printed(devices.out.bytes(), sheet);
-        put_links(door.back(), sheet);
-        Ok(())
-    }
+/// Does what an ask says over things that never fail.
+fn put_whole<R: Threads + Shared + Sync>(
+    rt: &R,
+    alloc: Global,
+    case: &Case,
+    ask: &Ask,
+    sheet: &mut Sheet,
+) -> Result<(), AllocError> {
+    let words = words_of(alloc, ask.words)?;
+    let mut devices = faultless(alloc, case, &words, sheet)?;
+    put_statuses(rt, alloc, &words, ask.times, &mut devices, sheet);
+    let door = &devices.door;
+    put_door(
+        door.listens(),
+        devices.links,
+        door.left(),
+        door.back().len(),
+        sheet,
+    );
+    put_printed(devices.out.bytes(), sheet);
+    put_links(door.back(), sheet);
+    Ok(())
 }
 
 impl<'a, R: Threads + Shared + Sync> Trial for Programs<'a, R> {
@@ -126,9 +124,9 @@ impl<'a, R: Threads + Shared + Sync> Trial for Programs<'a, R> {
         };
         self.rt.shared();
         let done = if ask.is_whole {
-            self.put_whole(alloc, case, &ask, sheet)
+            put_whole(self.rt, alloc, case, &ask, sheet)
         } else {
-            self.put_failing(alloc, case, &ask, sheet)
+            put_failing(self.rt, alloc, case, &ask, sheet)
         };
         if done.is_err() {
             sheet.fall_short();
