@@ -1,14 +1,11 @@
 -- Some cuts lead to a stable assumption, so safe environments meet the necessary conditions.
-use Rattle.std.proofs.Common.{◌≡◌, ◌≢◌, inl, inr, ◌⊎◌, ⊎_elim, ℕ, zero, suc, ◌<◌, ◌≤◌, ℤ, ◌≤ℤ◌, int_le, Bool, true, false, List, [], ◌∷◌, refl, sym, subst, arith}
+use Rattle.std.proofs.Common.{◌≡◌, ◌≢◌, inl, inr, ◌⊎◌, ⊎_elim, ℕ, zero, suc, ◌<◌, ◌≤◌, ℤ, List, [], ◌∷◌, refl, sym, subst, arith}
 use Rattle.std.specs.List.{Contains}
-use Rattle.std.proofs.lemmas.Int.{ints}
 use Rattle.std.proofs.lemmas.List.Elements.{All-contains}
 use Rattle.vmv_tree.specs.declared.name.Name.{Name}
 use Rattle.vmv_tree.specs.Words.{IsWord}
 use Rattle.vmv_tree.specs.Tree.{Item, outside, helper, entry}
 use Rattle.vmv_tree.specs.Safe.{Environment, words_of, Covers, Safe}
-use Rattle.vmv_cond.specs.declared.cond.Cond.{Cond}
-use Rattle.vmv_cond.specs.Cond.{Holds}
 use Rattle.vmv_snapshot.specs.Procs.{outsides}
 use Rattle.vmv_snapshot.specs.Resolution.{Resolution, IsResolution, tree_of}
 use Rattle.vmv_assumption.specs.Whole.{whole}

@@ -42,14 +42,22 @@ turns_push acts under [] c first mid last made more turns turn =
 turns_push acts under (d ∷ cs) c first mid last made more (next, one, rest, t, turns, parts) turn =
     (next, one, rest ++ more, t, turns_push acts under cs c next mid last rest more turns turn, ap (λ (ms : List Cut). ms ++ more) parts ∙ append_assoc one rest more)
 
--- answers in the order of the places, one for each, are those of the candidates
-pub all_judged : (acts : Candidate → Type 0) (cs : List Candidate) (answers told : List Bool) (n : ℕ) → n ≡ length cs → told ≡ answers → AnswersInOrder (IsJudged acts cs) 0 n answers → length answers ≡ n → AreJudged acts cs told
+-- answers in the order of the places, one for each, are those of all
+pub all_judged : {A : Type 0} (acts : A → Type 0) (cs : List A) (answers told : List Bool) (n : ℕ) → n ≡ length cs → told ≡ answers → AnswersInOrder (IsJudged acts cs) 0 n answers → length answers ≡ n → AreJudged acts cs told
 all_judged acts cs answers told n all same order count = subst (λ (xs : List Bool). AreJudged acts cs xs) (sym same) (record {
   count = count ∙ all;
   each = λ place answer at.
       let here : 0 + place ≡ place = omega arith in
       subst (λ (i : ℕ). IsJudged acts cs i answer) here (answer_at (IsJudged acts cs) 0 n answers order place answer at);
 })
+
+-- of one that is judged not to be so it doesn't hold
+pub not_judged : {A : Type 0} (P : A → Type 0) (xs : List A) (answers : List Bool) (place : ℕ) (x : A) (answer : Bool) → AreJudged P xs answers → place < length xs → x ≡ get_or xs place x → answer ≡ get_or answers place answer → answer ≡ false → ¬ P x
+not_judged P xs answers place x answer judged inside at judged_at not holds =
+    let count = judged.count in
+    let there : place < length answers = omega (arith, inside, count) in
+    let so = judged.each place answer (slice_get-get_or answers place answer there ∙ ap Some (sym judged_at)) x (slice_get-get_or xs place x inside ∙ ap Some (sym at)) in
+    let e : false ≡ true = subst (λ (b : Bool). IsTrue b) not (so.1 holds) in absurd (cc)
 
 -- the turn of the candidate at a place, as it is judged
 pub turn_at : (acts : Candidate → Type 0) (cs : List Candidate) (answers : List Bool) (place under : ℕ) (c : Candidate) (answer : Bool) (first mid last : Assumed) (before cuts more : List Cut) → AreJudged acts cs answers → place < length cs →

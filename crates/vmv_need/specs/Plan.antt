@@ -13,7 +13,6 @@ use Rattle.vmv_demands.specs.Demands.{AreDemands}
 use Rattle.vmv_forward.specs.Least.{IsLeastTable}
 use Rattle.vmv_need.specs.declared.subject.Subject.{Subject}
 use Rattle.vmv_need.specs.declared.subject.Scope.{Scope}
-use Rattle.vmv_need.specs.declared.candidate.Candidate.{Candidate}
 use Rattle.vmv_need.specs.declared.cut.Cut.{Cut}
 use Rattle.vmv_need.specs.declared.plan.Plan.{Plan}
 use Rattle.vmv_need.specs.declared.shown.ShownBy.{ShownBy}
@@ -46,14 +45,14 @@ pub record IsReady (program : Resolution) (plan : Plan) (held : List (Name × Co
   pub planned : IsPlanOf program plan
   pub names : names_of held ≡ outsides (tree_of program)
 
--- whether the candidate at this place acts
-abbrev pub IsJudged : (acts : Candidate → Type 0) → List Candidate → ℕ → Bool → Type 0
-IsJudged acts cs place answer = (c : Candidate) → slice_get cs place ≡ Some c → IsTrue answer ↔ acts c
+-- whether this holds of the one at this place
+abbrev pub IsJudged : {A : Type 0} → (P : A → Type 0) → List A → ℕ → Bool → Type 0
+IsJudged {A = A} P xs place answer = (x : A) → slice_get xs place ≡ Some x → IsTrue answer ↔ P x
 
--- whether each of them acts
-pub record AreJudged (acts : Candidate → Type 0) (cs : List Candidate) (answers : List Bool) : Type 0 where
-  pub count : length answers ≡ length cs
-  pub each : (place : ℕ) (answer : Bool) → slice_get answers place ≡ Some answer → IsJudged acts cs place answer
+-- whether this holds of each of them
+pub record AreJudged {A : Type 0} (P : A → Type 0) (xs : List A) (answers : List Bool) : Type 0 where
+  pub count : length answers ≡ length xs
+  pub each : (place : ℕ) (answer : Bool) → slice_get answers place ≡ Some answer → IsJudged P xs place answer
 
 -- no more exclusions are recorded than there are candidates
 abbrev pub HasRoom : Plan → List Cut → Type 0

@@ -14,7 +14,8 @@ use vmv_snapshot::Snapshot;
 /// candidate acts; or, where the program is vacuous under them, what shows it. It fails for want of memory alone.
 ///
 /// The candidates of a round are judged by so many workers, 1 to 64, each under what is assumed as the round begins. Each
-/// candidate passes the turnstile.
+/// candidate passes the turnstile. Behind the last round so many workers look whether an entry returns from its boxes, without
+/// the turnstile.
 pub fn necessary<R: Threads + Sync, T: Turnstile + Sync>(
     rt: &R,
     alloc: Global,
@@ -28,7 +29,7 @@ pub fn necessary<R: Threads + Sync, T: Turnstile + Sync>(
 {
     let plan = plan_of(alloc, base)?;
     let found = rounds(rt, alloc, base, &plan, workers, turnstile)?;
-    match shown_by(alloc, base, &plan, &found.assumed)? {
+    match shown_by(rt, alloc, base, &plan, &found.assumed, workers)? {
         Some(shown_by) => Ok(Needed::Vacuous { shown_by }),
         None => Ok(Needed::Conditions {
             assumption: found.assumed,

@@ -5,6 +5,7 @@
 mod candidate;
 mod cut;
 mod death;
+mod dooming;
 mod finding;
 mod gather;
 mod judge;

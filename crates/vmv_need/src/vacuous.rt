@@ -1,4 +1,4 @@
-ghost use Rattle.std.specs.Prelude.{MatchOption, IfOk};
+ghost use Rattle.std.specs.Prelude.{◌≤◌, MatchOption, IfOk};
 ghost use Rattle.std.specs.List.{Contains};
 ghost use Rattle.vmv_tree.specs.declared.name.Name.{Name};
 ghost use Rattle.vmv_snapshot.specs.declared.code.ProcId.{ProcId};
@@ -11,9 +11,11 @@ ghost use Rattle.vmv_need.specs.Vacuous.{IsEmptyName, IsDoomed, IsVacuous, IsFir
 ghost use Rattle.vmv_need.specs.Plan.{IsPlanOf, IsFirstDoomed};
 
 use crate::death::death_of;
+use crate::dooming::Dooming;
 use crate::plan::Plan;
 use crate::shown::ShownBy;
 use std::alloc::{AllocError, Global};
+use std::thread::Threads;
 use vmv_assumption::Assumption;
 use vmv_snapshot::Snapshot;
 use vmv_tree::Name;
@@ -30,21 +32,34 @@ fn first_empty(names: &[Name], assumed: &Assumption) -> Option<Name>
     None
 }
 
-/// The first entry and box from which it doesn't return, with the least table.
-fn first_doomed(
+/// The first entry and box from which it doesn't return, with the least table. So many workers look.
+fn first_doomed<R: Threads + Sync>(
+    rt: &R,
     alloc: Global,
     base: &Snapshot,
     plan: &Plan,
     assumed: &Assumption,
+    workers: u32,
 ) -> Result<Option<ShownBy>, AllocError>
-    requires { IsPlanOf base.now plan.now }
+    requires planned { IsPlanOf base.now plan.now }
+    requires workers { (1 ≤ workers) × (workers ≤ 64) }
     ensures { IfOk result (λ found. MatchOption found ((place : ProcId × Box) → Contains (places_of plan.now.scope) place → ¬ IsDoomed base.now plan.now.scope (cond_of assumed.now) place) (λ shown. IsFirstDoomed base.now plan.now.scope (cond_of assumed.now) shown)) }
 {
-    for (entry, within) in plan.places.as_slice() {
-        if let Some(table) = death_of(alloc, base, plan, *entry, within, assumed)? {
+    let dooming = Dooming {
+        base,
+        plan,
+        assumed,
+    };
+    let doomed = dooming.judge_all(rt, alloc, workers)?;
+    for place in 0..plan.places.len() {
+        let (entry, within) = plan.places[place];
+        if !doomed[place] {
+            continue;
+        }
+        if let Some(table) = death_of(alloc, base, plan, entry, &within, assumed)? {
             return Ok(Some(ShownBy::Doomed {
-                entry: *entry,
-                within: *within,
+                entry,
+                within,
                 table,
             }));
         }
@@ -52,20 +67,23 @@ fn first_doomed(
     Ok(None)
 }
 
-/// What shows that the program is vacuous under what is assumed; `None` exactly where it isn't.
-pub(crate) fn shown_by(
+/// What shows that the program is vacuous under what is assumed; `None` exactly where it isn't. So many workers look.
+pub(crate) fn shown_by<R: Threads + Sync>(
+    rt: &R,
     alloc: Global,
     base: &Snapshot,
     plan: &Plan,
     assumed: &Assumption,
+    workers: u32,
 ) -> Result<Option<ShownBy>, AllocError>
-    requires { IsPlanOf base.now plan.now }
+    requires planned { IsPlanOf base.now plan.now }
+    requires workers { (1 ≤ workers) × (workers ≤ 64) }
     ensures { IfOk result (λ found. MatchOption found (¬ IsVacuous base.now plan.now.scope (cond_of assumed.now)) (λ shown. IsVacuous base.now plan.now.scope (cond_of assumed.now) × IsShownBy base.now plan.now.scope (cond_of assumed.now) shown)) }
 {
     match first_empty(base.outsides(), assumed) {
         Some(name) => Ok(Some(ShownBy::EmptyName(name))),
         None => {
-            let found = first_doomed(alloc, base, plan, assumed)?;
+            let found = first_doomed(rt, alloc, base, plan, assumed, workers)?;
             Ok(found)
         }
     }

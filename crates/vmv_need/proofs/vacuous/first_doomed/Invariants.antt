@@ -6,5 +6,5 @@ use Rattle.vmv_cert.specs.Tables.{Box}
 use Rattle.vmv_need.specs.Vacuous.{IsDoomed}
 use Rattle.vmv_need.proofs.vacuous.first_doomed.Given as goal
 
-abbrev pub invariant-loop-entry : goal.invariant-loop-entry
-invariant-loop-entry l = (place : ProcId × Box) → Contains (take l.entry-index l.plan.places.items) place → ¬ IsDoomed l.base l.plan.scope (cond_of l.assumed) place
+abbrev pub invariant-loop-place : goal.invariant-loop-place
+invariant-loop-place g l = (place : ProcId × Box) → Contains (take l.place l.plan.places.items) place → ¬ IsDoomed l.base l.plan.scope (cond_of l.assumed) place

@@ -3,7 +3,7 @@ use Rattle.vmv_need.proofs.Firsts.{empty_shows, doomed_shows}
 use Rattle.vmv_need.proofs.vacuous.shown_by.Goals as goal
 
 pub returns-in-Some : goal.returns-in-Some
-returns-in-Some c = empty_shows c.args.base.now c.args.plan.now.scope (cond_of c.args.assumed.now) _ c.in-Some.name c.outsides.ensures c.in-Some.ensures
+returns-in-Some g c = empty_shows c.args.base.now c.args.plan.now.scope (cond_of c.args.assumed.now) _ c.in-Some.name c.outsides.ensures c.in-Some.ensures
 
 pub returns-in_ok-found-in-None : goal.returns-in_ok-found-in-None
-returns-in_ok-found-in-None c = doomed_shows c.args.base.now c.args.plan.now.scope (cond_of c.args.assumed.now) _ c.in_ok-found-in-None.found c.outsides.ensures c.in-None.ensures c.in_ok-found-in-None.ensures
+returns-in_ok-found-in-None g c = doomed_shows c.args.base.now c.args.plan.now.scope (cond_of c.args.assumed.now) _ c.in_ok-found-in-None.found c.outsides.ensures c.in-None.ensures c.in_ok-found-in-None.ensures
