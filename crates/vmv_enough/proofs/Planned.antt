@@ -1,11 +1,12 @@
 -- The entries of a plan, in text order.
-use Rattle.std.proofs.Common.{◌≡◌, ◌⊎◌, inl, inr, ⊎_elim, ℕ, zero, suc, ◌+◌, ◌<◌, false, Some, List, [], ◌∷◌, ◌++◌, length, map, slice_get, refl, sym, ap, subst, arith, ◌∙◌}
+use Rattle.std.proofs.Common.{◌≡◌, ◌⊎◌, inl, inr, ⊎_elim, ℕ, zero, suc, ◌+◌, ◌<◌, false, Option, Some, None, List, [], ◌∷◌, ◌++◌, length, map, slice_get, refl, sym, ap, subst, arith, ◌∙◌, append-nil, option_to_list}
 use Rattle.std.proofs.lemmas.Option.{slice_get_within}
 use Rattle.vmv_tree.specs.declared.ends.NameEnds.{NameEnds}
 use Rattle.vmv_snapshot.specs.Procs.{is_entry}
 use Rattle.vmv_snapshot.specs.Resolution.{Resolution, procs_of}
 use Rattle.vmv_enough.specs.declared.plan.Subject.{Subject}
-use Rattle.vmv_enough.specs.Plan.{IsEntryOf, IsSubject, IsAt, AreSubjects}
+use Rattle.vmv_crew.specs.Answers.{AnswersInOrder}
+use Rattle.vmv_enough.specs.Plan.{IsEntryOf, IsSubject, IsFoundAt, IsAt, AreSubjects}
 use Rattle.vmv_enough.proofs.Lists.{push_at, old_at, new_at, below_or_at, same_there}
 
 pub no_subjects : (program : Resolution) (ends : List NameEnds) (subjects : List Subject) → subjects ≡ [] → AreSubjects program ends 0 subjects
@@ -84,6 +85,46 @@ no_subject program ends n subjects marked old = record {
       absurd (cc))
       (below_or_at m n below);
 }
+
+-- what was found of one procedure more
+found_more : (program : Resolution) (ends : List NameEnds) (n : ℕ) (found : Option Subject) (subjects more : List Subject) → IsFoundAt program ends n found → more ≡ subjects ++ option_to_list found → AreSubjects program ends n subjects → AreSubjects program ends (n + 1) more
+found_more program ends n None subjects more marked grown old =
+    let P : List Subject → Type 0 = λ xs. AreSubjects program ends (n + 1) xs in subst P (sym (grown ∙ append-nil subjects)) (no_subject program ends n subjects marked old)
+found_more program ends n (Some subject) subjects more found grown old = one_subject program ends n subjects more subject grown found.0 found.1 old
+
+-- those of the first procedures, and in order what was found of those that are left
+pub record ArePlanned (program : Resolution) (ends : List NameEnds) (left : List (Option Subject)) (subjects : List Subject) : Type 0 where
+  pub n : ℕ
+  pub added : AreSubjects program ends n subjects
+  pub answers : AnswersInOrder (IsFoundAt program ends) n (length left) left
+  pub count : n + length left ≡ length (procs_of program)
+
+pub planned_start : (program : Resolution) (ends : List NameEnds) (found left : List (Option Subject)) (subjects : List Subject) (count : ℕ) → subjects ≡ [] → left ≡ found → count ≡ length (procs_of program) → AnswersInOrder (IsFoundAt program ends) 0 count found → length found ≡ count → ArePlanned program ends left subjects
+planned_start program ends found left subjects count e same all answers counted = let P : List (Option Subject) → Type 0 = λ xs. ArePlanned program ends xs subjects in subst P (sym same) (record {
+  n = 0;
+  added = no_subjects program ends subjects e;
+  answers = subst (λ (k : ℕ). AnswersInOrder (IsFoundAt program ends) 0 k found) (sym counted) answers;
+  count = let size = counted ∙ all in omega (arith, size);
+})
+
+pub planned_more : (program : Resolution) (ends : List NameEnds) (left rest : List (Option Subject)) (found : Option Subject) (subjects more : List Subject) → left ≡ found ∷ rest → more ≡ subjects ++ option_to_list found → ArePlanned program ends left subjects → ArePlanned program ends rest more
+planned_more program ends left rest found subjects more next grown is = by (let P : List (Option Subject) → Type 0 = λ xs. ArePlanned program ends xs subjects in subst P next is)
+  where
+    by : ArePlanned program ends (found ∷ rest) subjects → ArePlanned program ends rest more
+    by l =
+        let count = l.count in
+        record {
+          n = l.n + 1;
+          added = found_more program ends l.n found subjects more l.answers.0 grown l.added;
+          answers = l.answers.1;
+          count = omega (arith, count);
+        }
+
+pub planned_all : (program : Resolution) (ends : List NameEnds) (left : List (Option Subject)) (subjects : List Subject) → length left ≡ 0 → ArePlanned program ends left subjects → AreSubjects program ends (length (procs_of program)) subjects
+planned_all program ends left subjects none l =
+    let count = l.count in
+    let same : l.n ≡ length (procs_of program) = omega (arith, count, none) in
+    subst (λ (n : ℕ). AreSubjects program ends n subjects) same l.added
 
 either : (a b : ℕ) → (a < b) ⊎ ((a ≡ b) ⊎ (b < a))
 either zero zero = inr (inl refl)

@@ -1,5 +1,5 @@
 -- What is looked at in a program while its conditions are tightened.
-use Rattle.std.specs.Prelude.{◌≡◌, ◌↔◌, ◌<◌, ℕ, true, Some, List, [], length, map, slice_get}
+use Rattle.std.specs.Prelude.{◌≡◌, ◌↔◌, ◌<◌, ℕ, true, false, Option, Some, None, List, [], length, map, slice_get}
 use Rattle.std.specs.List.{Contains}
 use Rattle.vmv_tree.specs.declared.ends.NameEnds.{NameEnds}
 use Rattle.vmv_tree.specs.declared.site.NamedSite.{NamedSite}
@@ -36,6 +36,11 @@ pub record AreSubjects (program : Resolution) (ends : List NameEnds) (n : ℕ) (
   pub each : (place : ℕ) (subject : Subject) → slice_get subjects place ≡ Some subject → IsSubject program ends subject × (subject.entry.0 < n)
   pub rising : (place later m k : ℕ) → place < later → IsAt subjects place m → IsAt subjects later k → m < k
   pub all : (m : ℕ) → m < n → IsEntryOf program m → (place : ℕ) × IsAt subjects place m
+
+-- the procedure of number n is a helper, where there is none, or the entry with this
+abbrev pub IsFoundAt : Resolution → List NameEnds → ℕ → Option Subject → Type 0
+IsFoundAt program ends n None = slice_get (map is_entry (procs_of program)) n ≡ Some false
+IsFoundAt program ends n (Some subject) = IsSubject program ends subject × (subject.entry.0 ≡ n)
 
 -- the ends of the program, and its entries
 pub record IsPlan (program : Resolution) (plan : Plan) : Type 0 where

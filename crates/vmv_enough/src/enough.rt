@@ -83,7 +83,7 @@ pub fn sufficient<R: Threads + Sync, T: Turnstile + Sync>(
 {
     proved_programs_are_safe();
     let _ = base.program();
-    let plan = plan_of(alloc, base)?;
+    let plan = plan_of(rt, alloc, base, workers)?;
     let mut assumed = needed.copy(alloc)?;
     let mut taken = 0;
     'tightening: loop {

@@ -9,6 +9,7 @@ pub mod Once
 pub mod Existing
 pub mod Scopes
 pub mod First
+pub mod Gathered
 pub mod Pieces
 pub mod Fit
 pub mod Deaths

@@ -1,5 +1,5 @@
 -- The order of the work, and what single steps of it do. Private contracts alone cite these definitions.
-use Rattle.std.specs.Prelude.{◌≡◌, ◌↔◌, ◌^◌, ◌<◌, ◌≤◌, ℕ, Bool, IsTrue, Some, List, length, map, take, slice_get}
+use Rattle.std.specs.Prelude.{◌≡◌, ◌↔◌, ◌^◌, ◌<◌, ◌≤◌, ℕ, Bool, IsTrue, true, false, Option, Some, None, List, length, map, take, slice_get}
 use Rattle.std.specs.List.{Contains}
 use Rattle.vmv_tree.specs.declared.name.Name.{Name}
 use Rattle.vmv_tree.specs.declared.tree.Param.{Param}
@@ -26,6 +26,11 @@ pub record AreFirst (program : Resolution) (n : ℕ) (subjects : List Subject) :
   pub entries : map (λ (s : Subject). s.entry.0) subjects ≡ entries_from 0 (take n (map is_entry (procs_of program)))
   pub boxes : (s : Subject) → Contains subjects s → AreBoxes program s.entry.0 s.boxes
   pub demands : (s : Subject) → Contains subjects s → AreDemands program s.entry.0 s.demands
+
+-- the procedure of number n is a helper, where there is none, or the entry with this
+abbrev pub IsFoundAt : Resolution → ℕ → Option Subject → Type 0
+IsFoundAt program n None = slice_get (map is_entry (procs_of program)) n ≡ Some false
+IsFoundAt program n (Some s) = (slice_get (map is_entry (procs_of program)) n ≡ Some true) × (s.entry.0 ≡ n) × AreBoxes program n s.boxes × AreDemands program n s.demands
 
 -- the procedure is an entry, and the box lies in its parameters' ranges
 abbrev pub IsEntryWithin : Resolution → ℕ → Box → Type 0

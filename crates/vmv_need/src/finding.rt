@@ -27,7 +27,7 @@ pub fn necessary<R: Threads + Sync, T: Turnstile + Sync>(
     ensures needed { IfOk result (IsNeeded base.now) }
     ensures safe { IfOk result (AllowsSafe base.now) }
 {
-    let plan = plan_of(alloc, base)?;
+    let plan = plan_of(rt, alloc, base, workers)?;
     let found = rounds(rt, alloc, base, &plan, workers, turnstile)?;
     match shown_by(rt, alloc, base, &plan, &found.assumed, workers)? {
         Some(shown_by) => Ok(Needed::Vacuous { shown_by }),

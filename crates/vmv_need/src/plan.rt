@@ -1,4 +1,4 @@
-ghost use Rattle.std.specs.Prelude.{◌≡◌, ◌++◌, IfOk, OnOk};
+ghost use Rattle.std.specs.Prelude.{◌≡◌, ◌≤◌, ◌++◌, IfOk, OnOk};
 ghost use Rattle.std.specs.List.{flat_map};
 ghost use Rattle.vmv_need.specs.Candidates.{places_in, places_of};
 ghost use Rattle.vmv_need.specs.Plan.{IsPlanOf};
@@ -7,6 +7,7 @@ use crate::candidate::{Candidate, candidates_in};
 use crate::gather::{EntryThresholds, all_thresholds, scope_of};
 use crate::subject::{Scope, Subject};
 use std::alloc::{AllocError, Global};
+use std::thread::Threads;
 use vmv_snapshot::{ParamBox, ProcId, Snapshot};
 
 /// What is looked at in a program, in the order of the work.
@@ -43,12 +44,18 @@ fn places_in(alloc: Global, scope: &Scope) -> Result<Vec<(ProcId, ParamBox)>, Al
     Ok(places)
 }
 
-/// The plan of the work on a program.
-pub(crate) fn plan_of(alloc: Global, base: &Snapshot) -> Result<Plan, AllocError>
+/// The plan of the work on a program. So many workers look.
+pub(crate) fn plan_of<R: Threads + Sync>(
+    rt: &R,
+    alloc: Global,
+    base: &Snapshot,
+    workers: u32,
+) -> Result<Plan, AllocError>
+    requires workers { (1 ≤ workers) × (workers ≤ 64) }
     ensures { IfOk result (IsPlanOf base.now) }
 {
     let _ = base.program();
-    let scope = scope_of(alloc, base)?;
+    let scope = scope_of(rt, alloc, base, workers)?;
     let candidates = candidates_in(alloc, &scope)?;
     let places = places_in(alloc, &scope)?;
     let thresholds = all_thresholds(alloc, base, &scope.ends)?;

@@ -1,16 +1,23 @@
-use Rattle.std.proofs.Common.{◌≡◌, List, sym, subst, length, arith}
-use Rattle.vmv_snapshot.specs.Resolution.{procs_of}
-use Rattle.vmv_need.specs.declared.subject.Subject.{Subject}
-use Rattle.vmv_need.specs.Plan.{AreFirst}
-use Rattle.vmv_need.proofs.First.{no_entry, all_of_them, few_subjects}
+use denote.Param.Send.{sendable}
+use Rattle.std.proofs.Common.{◌≡◌, length, sym, ◌∙◌, arith}
+use Rattle.vmv_lent.proofs.Snapshots.{snapshot_sync}
+use Rattle.vmv_need.proofs.First.{few_subjects}
+use Rattle.vmv_need.proofs.Gathered.{gathered_start, gathered_more, gathered_all}
 use Rattle.vmv_need.proofs.gather.subjects_of.Goals as goal
 
-pub loop-number-init : goal.loop-number-init
-loop-number-init c = subst (λ (ss : List Subject). AreFirst c.args.base.now 0 ss) (sym c.new-subjects.ensures) (no_entry _)
+pub fan-requires-sync-J : goal.fan-requires-sync-J
+fan-requires-sync-J g c κs within = let base = snapshot_sync in search sendable depth 20
+
+pub loop-one-init : goal.loop-one-init
+loop-one-init g c =
+    gathered_start c.args.base.now _ _ _ _ c.new-subjects.ensures (c.into_iter-one-iterator.ensures.into_iter_gives.0 ∙ c.into_vec-one-items.ensures) (c.from-count.ensures ∙ c.proc_count.ensures) c.in_ok-found.ensures.answers c.in_ok-found.ensures.count
+
+pub loop-one-preserved : goal.loop-one-preserved
+loop-one-preserved g c = gathered_more c.args.base.now _ _ c.in-Some.one _ _ c.in-Some.ensures.steps.0 c.in_ok-add_found.ensures c.loop-one.invariant
 
 pub returns : goal.returns
-returns c =
-    let end : c.loop-number.number ≡ length (procs_of c.args.base.now) = omega (arith, c.loop-number-test.false, c.loop-number.auto.number-end, c.proc_count-number-end.ensures) in
-    let first = all_of_them _ _ _ end c.loop-number.invariant in
+returns g c =
+    let none : length c.loop-one.one-iterator.rest.items ≡ 0 = sym c.loop-one.one-iterator.rest.ok.0 ∙ c.in-None.ensures.steps.0 in
+    let first = gathered_all c.args.base.now _ c.loop-one.subjects none c.loop-one.invariant in
     let few = few_subjects _ _ first in
-    record { first = first; few = omega (arith, few, c.proc_count-number-end.ensures, c.proc_count-number-end.type_inv) }
+    record { first = first; few = omega (arith, few, c.proc_count.ensures, c.proc_count.type_inv) }

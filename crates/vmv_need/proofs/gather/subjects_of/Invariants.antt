@@ -1,5 +1,5 @@
-use Rattle.vmv_need.specs.Plan.{AreFirst}
+use Rattle.vmv_need.proofs.Gathered.{AreGathered}
 use Rattle.vmv_need.proofs.gather.subjects_of.Given as goal
 
-abbrev pub invariant-loop-number : goal.invariant-loop-number
-invariant-loop-number l = AreFirst l.base l.number l.subjects
+abbrev pub invariant-loop-one : goal.invariant-loop-one
+invariant-loop-one g l = AreGathered l.base l.one-iterator.rest.items l.subjects

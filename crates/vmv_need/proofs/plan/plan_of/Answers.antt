@@ -4,7 +4,7 @@ use Rattle.vmv_need.proofs.Fit.{few_candidates}
 use Rattle.vmv_need.proofs.plan.plan_of.Goals as goal
 
 pub returns : goal.returns
-returns c = record {
+returns g c = record {
   is_resolution = c.program.ensures.resolution;
   scope = c.in_ok-scope.ensures.scope;
   candidates = c.in_ok-candidates.ensures;
