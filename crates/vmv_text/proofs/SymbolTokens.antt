@@ -3,7 +3,7 @@ use Rattle.std.proofs.Common.{◌≡◌, Some, refl, ap}
 use Rattle.vmv_text.specs.declared.token.Token.{Token}
 use Rattle.vmv_text.specs.declared.token.Token.TheVariants as token
 use Rattle.vmv_text.specs.declared.symbol.Symbol.{Symbol}
-use Rattle.vmv_text.specs.declared.symbol.Symbol.TheVariants.{Minus, Colon, Dots, Comma, Semicolon, Equals, OpenParen, CloseParen, OpenBrace, CloseBrace, ElseWord, ToWord, CapWord, VarWord, ReturnWord}
+use Rattle.vmv_text.specs.declared.symbol.Symbol.TheVariants.{Minus, Colon, Dots, Comma, Semicolon, Equals, OpenParen, CloseParen, OpenBrace, CloseBrace, ElseWord, ToWord, CapWord, VarWord, ReturnWord, AndWord, OrWord, NotWord, OpenBracket, CloseBracket}
 use Rattle.vmv_text.specs.Symbols.{as_token, symbol_in}
 
 pub token_symbol : (s : Symbol) → symbol_in (as_token s) ≡ Some s
@@ -22,6 +22,11 @@ token_symbol ToWord = refl
 token_symbol CapWord = refl
 token_symbol VarWord = refl
 token_symbol ReturnWord = refl
+token_symbol AndWord = refl
+token_symbol OrWord = refl
+token_symbol NotWord = refl
+token_symbol OpenBracket = refl
+token_symbol CloseBracket = refl
 
 pub symbol_token : (t : Token) (s : Symbol) → symbol_in t ≡ Some s → t ≡ as_token s
 symbol_token token.Minus s h =
@@ -68,5 +73,20 @@ symbol_token token.VarWord s h =
     ap as_token e
 symbol_token token.ReturnWord s h =
     let e : ReturnWord ≡ s = cc h in
+    ap as_token e
+symbol_token token.AndWord s h =
+    let e : AndWord ≡ s = cc h in
+    ap as_token e
+symbol_token token.OrWord s h =
+    let e : OrWord ≡ s = cc h in
+    ap as_token e
+symbol_token token.NotWord s h =
+    let e : NotWord ≡ s = cc h in
+    ap as_token e
+symbol_token token.OpenBracket s h =
+    let e : OpenBracket ≡ s = cc h in
+    ap as_token e
+symbol_token token.CloseBracket s h =
+    let e : CloseBracket ≡ s = cc h in
     ap as_token e
 symbol_token t s h = absurd (cc h)

@@ -1,12 +1,14 @@
 -- The tokens of a text are its first, and those of what is behind it.
-use Rattle.std.proofs.Common.{◌≡◌, ℕ, zero, suc, ◌+◌, ◌<◌, ◌≤◌, Bool, true, false, not, ◌&&◌, ◌||◌, cond, Option, Some, None, List, [], ◌∷◌, length, drop, take, refl, sym, ap, ◌∙◌, arith, length-drop}
+use Rattle.std.proofs.Common.{◌≡◌, ℕ, zero, suc, ◌+◌, ◌<◌, ◌≤◌, Bool, true, false, not, ◌&&◌, ◌||◌, cond, Option, Some, None, List, [], ◌∷◌, length, drop, take, map, refl, sym, ap, ◌∙◌, arith, length-drop}
 use Rattle.std.specs.Prelude.{◌==◌, if◌then◌else◌, unwrap_or}
 use Rattle.std.specs.Option.{option_map}
 use Rattle.vmv_tree.specs.Names.{is_letter, is_digit}
+use Rattle.vmv_text.specs.declared.language.Language.{Language}
+use Rattle.vmv_text.specs.declared.language.Language.TheVariants.{Core, Surface}
 use Rattle.vmv_text.specs.declared.token.Token.{Token}
 use Rattle.vmv_text.specs.Faults.{left_from}
 use Rattle.vmv_text.specs.Reading.{first_of, front_tokens, IsEnd, IsFront}
-use Rattle.vmv_text.specs.Tokens.{Placed, is_white, begins_with, after_gap, token_at, mark_token, token_and, tokens_in, placed_tokens, spelled, pairs}
+use Rattle.vmv_text.specs.Tokens.{Placed, is_white, begins_with, after_gap, token_at, mark_token, token_and, tokens_in, placed_tokens, spelled, pairs, token_in, placed_in, language_tokens}
 
 mark_some : (o : Option Token) (t : Token) → 0 < (unwrap_or {T = Token × ℕ} (option_map (λ (t : Token). (t, 2)) o) (t, 1)).1
 mark_some None t = omega arith
@@ -72,25 +74,59 @@ pub first_longer : (at : List ℕ) → 0 < length at → 0 < (token_at at).1
 first_longer [] h = absurd (omega arith)
 first_longer (b ∷ rest) h = some_bytes b rest
 
--- no token is next, and one is
-pub front_none : (text at : List ℕ) → after_gap false text ≡ at → at ≡ [] → IsFront text None at at
-front_none text at h e = record { same = sym (placed-none text (h ∙ e)); end = λ none. (e, e) }
+-- in either language: no token is left, or one and those behind it
 
-pub front_some : (text at behind : List ℕ) (token : Token) → after_gap false text ≡ at → 0 < length at → token ≡ (token_at at).0 → behind ≡ drop (token_at at).1 at → IsFront text (Some token) at behind
-front_some text at behind token h k e f = record {
-  same = ap (λ t. front_tokens (Some t) at behind) e ∙ (ap (λ more. front_tokens (Some (token_at at).0) at more) f ∙ sym (placed-first text at h k));
+abbrev of_place : Language → List Placed → List Placed
+of_place Core ps = ps
+of_place Surface ps = map (placed_in Surface) ps
+
+of_language : (language : Language) (text : List ℕ) → language_tokens language text ≡ of_place language (placed_tokens text)
+of_language Core text = refl
+of_language Surface text = refl
+
+first_of_place : (language : Language) (p : Placed) (rest : List Placed) → of_place language (p ∷ rest) ≡ placed_in language p ∷ of_place language rest
+first_of_place Core p rest = refl
+first_of_place Surface p rest = refl
+
+none_of_place : (language : Language) → of_place language [] ≡ []
+none_of_place Core = refl
+none_of_place Surface = refl
+
+pub language-none : (language : Language) (text : List ℕ) → after_gap false text ≡ [] → language_tokens language text ≡ []
+language-none language text h =
+    of_language language text ∙ (ap (of_place language) (placed-none text h) ∙ none_of_place language)
+
+pub language-first : (language : Language) (text at : List ℕ) → after_gap false text ≡ at → 0 < length at
+    → language_tokens language text ≡ record { token = token_in language (token_at at).0 at; from = at } ∷ language_tokens language (drop (token_at at).1 at)
+language-first language text at h k =
+    let behind = drop (token_at at).1 at in
+    let here : Placed = record { token = (token_at at).0; from = at } in
+    of_language language text
+    ∙ (ap (of_place language) (placed-first text at h k)
+    ∙ (first_of_place language here (placed_tokens behind) ∙ ap (λ more. placed_in language here ∷ more) (sym (of_language language behind))))
+
+-- no token is next, and one is
+pub front_none : (language : Language) (text at : List ℕ) → after_gap false text ≡ at → at ≡ [] → IsFront language text None at at
+front_none language text at h e = record { same = sym (language-none language text (h ∙ e)); end = λ none. (e, e) }
+
+pub front_some : (language : Language) (text at behind : List ℕ) (token : Token) → after_gap false text ≡ at → 0 < length at → token ≡ token_in language (token_at at).0 at → behind ≡ drop (token_at at).1 at
+    → IsFront language text (Some token) at behind
+front_some language text at behind token h k e f = record {
+  same =
+      ap (λ t. front_tokens language (Some t) at behind) e
+      ∙ (ap (λ more. front_tokens language (Some (token_in language (token_at at).0 at)) at more) f ∙ sym (language-first language text at h k));
   end = λ none. absurd (cc none);
 }
 
 -- what the next token, the text from it on and the text behind it are of the tokens that are left
-pub front_first : (token : Option Token) (from behind : List ℕ) → token ≡ first_of (front_tokens token from behind)
-front_first None from behind = refl
-front_first (Some t) from behind = refl
+pub front_first : (language : Language) (token : Option Token) (from behind : List ℕ) → token ≡ first_of (front_tokens language token from behind)
+front_first language None from behind = refl
+front_first language (Some t) from behind = refl
 
-pub front_left : (token : Option Token) (from behind : List ℕ) → IsEnd token from behind → from ≡ left_from (front_tokens token from behind)
-front_left None from behind end = (end refl).0
-front_left (Some t) from behind end = refl
+pub front_left : (language : Language) (token : Option Token) (from behind : List ℕ) → IsEnd token from behind → from ≡ left_from (front_tokens language token from behind)
+front_left language None from behind end = (end refl).0
+front_left language (Some t) from behind end = refl
 
-pub front_rest : (token : Option Token) (from behind : List ℕ) → IsEnd token from behind → placed_tokens behind ≡ drop 1 (front_tokens token from behind)
-front_rest None from behind end = ap placed_tokens (end refl).1 ∙ placed-none [] refl
-front_rest (Some t) from behind end = refl
+pub front_rest : (language : Language) (token : Option Token) (from behind : List ℕ) → IsEnd token from behind → language_tokens language behind ≡ drop 1 (front_tokens language token from behind)
+front_rest language None from behind end = ap (language_tokens language) (end refl).1 ∙ language-none language [] refl
+front_rest language (Some t) from behind end = refl

@@ -9,7 +9,8 @@ use Rattle.vmv_text.specs.declared.token.Token.{Token}
 use Rattle.vmv_text.specs.declared.token.Token.TheVariants.{Named, Number, Edge, Equals, ElseWord, ToWord, CapWord, VarWord, OpenParen, CloseParen, Semicolon}
 use Rattle.vmv_text.specs.declared.fault.Fault.{Fault}
 use Rattle.vmv_text.specs.declared.fault.Fault.TheVariants.{Syntax, Memory}
-use Rattle.vmv_text.specs.Tokens.{Placed, placed_tokens, tokens_of}
+use Rattle.vmv_text.specs.declared.language.Language.{Language}
+use Rattle.vmv_text.specs.Tokens.{Placed, language_tokens, tokens_of}
 use Rattle.vmv_text.specs.Grammar.{Takes, op_token, rel_token, IsOperand, IsStmt, AreStmts, Braces, Commas, AnyCommas, IsItem, IsProgram}
 
 -- these tokens begin as what is left does: with the same token, or there are none on either side
@@ -73,17 +74,17 @@ first_of [] = None
 first_of (p ∷ rest) = Some p.token
 
 -- the next token, with the text from it on, and the tokens of the text behind it; or there are none
-abbrev pub front_tokens : Option Token → (from behind : List ℕ) → List Placed
-front_tokens None from behind = []
-front_tokens (Some token) from behind = record { token = token; from = from } ∷ placed_tokens behind
+abbrev pub front_tokens : Language → Option Token → (from behind : List ℕ) → List Placed
+front_tokens language None from behind = []
+front_tokens language (Some token) from behind = record { token = token; from = from } ∷ language_tokens language behind
 
 -- behind the last token stands nothing
 abbrev pub IsEnd : Option Token → (from behind : List ℕ) → Type 0
 IsEnd token from behind = token ≡ None → (from ≡ []) × (behind ≡ [])
 
 -- the next token of a text, the text from it on, and the text behind it
-pub record IsFront (text : List ℕ) (token : Option Token) (from behind : List ℕ) : Type 0 where
-  pub same : front_tokens token from behind ≡ placed_tokens text
+pub record IsFront (language : Language) (text : List ℕ) (token : Option Token) (from behind : List ℕ) : Type 0 where
+  pub same : front_tokens language token from behind ≡ language_tokens language text
   pub end : IsEnd token from behind
 
 -- whether this token was taken off the front

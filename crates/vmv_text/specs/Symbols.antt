@@ -3,7 +3,7 @@ use Rattle.std.specs.Prelude.{Option, Some, None}
 use Rattle.vmv_text.specs.declared.token.Token.{Token}
 use Rattle.vmv_text.specs.declared.token.Token.TheVariants as token
 use Rattle.vmv_text.specs.declared.symbol.Symbol.{Symbol}
-use Rattle.vmv_text.specs.declared.symbol.Symbol.TheVariants.{Minus, Colon, Dots, Comma, Semicolon, Equals, OpenParen, CloseParen, OpenBrace, CloseBrace, ElseWord, ToWord, CapWord, VarWord, ReturnWord}
+use Rattle.vmv_text.specs.declared.symbol.Symbol.TheVariants.{Minus, Colon, Dots, Comma, Semicolon, Equals, OpenParen, CloseParen, OpenBrace, CloseBrace, ElseWord, ToWord, CapWord, VarWord, ReturnWord, AndWord, OrWord, NotWord, OpenBracket, CloseBracket}
 
 -- the token of a symbol
 abbrev pub as_token : Symbol → Token
@@ -22,6 +22,11 @@ as_token ToWord = token.ToWord
 as_token CapWord = token.CapWord
 as_token VarWord = token.VarWord
 as_token ReturnWord = token.ReturnWord
+as_token AndWord = token.AndWord
+as_token OrWord = token.OrWord
+as_token NotWord = token.NotWord
+as_token OpenBracket = token.OpenBracket
+as_token CloseBracket = token.CloseBracket
 
 -- the symbol that a token is
 abbrev pub symbol_in : Token → Option Symbol
@@ -40,4 +45,9 @@ symbol_in token.ToWord = Some ToWord
 symbol_in token.CapWord = Some CapWord
 symbol_in token.VarWord = Some VarWord
 symbol_in token.ReturnWord = Some ReturnWord
+symbol_in token.AndWord = Some AndWord
+symbol_in token.OrWord = Some OrWord
+symbol_in token.NotWord = Some NotWord
+symbol_in token.OpenBracket = Some OpenBracket
+symbol_in token.CloseBracket = Some CloseBracket
 symbol_in t = None

@@ -1,11 +1,13 @@
 -- The tokens of a text.
-use Rattle.std.specs.Prelude.{ℕ, zero, suc, ◌+◌, ◌-◌, ◌*◌, ◌^◌, Bool, true, false, not, ◌&&◌, ◌||◌, nat_le, nat_lt, ◌==◌, List, [], ◌∷◌, ◌++◌, length, take, drop, fold, take_while, codes, Option, Some, None, unwrap_or, if◌then◌else◌}
+use Rattle.std.specs.Prelude.{ℕ, zero, suc, ◌+◌, ◌-◌, ◌*◌, ◌^◌, Bool, true, false, not, ◌&&◌, ◌||◌, nat_le, nat_lt, ◌==◌, List, [], ◌∷◌, ◌++◌, length, take, drop, fold, take_while, codes, Option, Some, None, unwrap_or, if◌then◌else◌, map}
 use Rattle.std.specs.Option.{option_map}
 use Rattle.std.specs.List.{prefix_len}
 use Rattle.std.specs.Str.{bytes_eq}
 use Rattle.vmv_tree.specs.Names.{is_letter, is_digit, is_name_byte}
+use Rattle.vmv_text.specs.declared.language.Language.{Language}
+use Rattle.vmv_text.specs.declared.language.Language.TheVariants.{Core, Surface}
 use Rattle.vmv_text.specs.declared.token.Token.{Token}
-use Rattle.vmv_text.specs.declared.token.Token.TheVariants.{Named, Number, Edge, Bad, OutsideWord, HelperWord, EntryWord, VarWord, ReturnWord, AssertWord, IfWord, ElseWord, RepeatWord, ToWord, CapWord, Dots, DoubleEquals, NotEquals, LessOrEqual, GreaterOrEqual, OpenParen, CloseParen, OpenBrace, CloseBrace, Comma, Semicolon, Colon, Equals, Plus, Minus, Star, Slash, Percent, LessThan, GreaterThan}
+use Rattle.vmv_text.specs.declared.token.Token.TheVariants.{Named, Number, Edge, Bad, OutsideWord, HelperWord, EntryWord, VarWord, ReturnWord, AssertWord, IfWord, ElseWord, RepeatWord, ToWord, CapWord, Dots, DoubleEquals, NotEquals, LessOrEqual, GreaterOrEqual, OpenParen, CloseParen, OpenBrace, CloseBrace, Comma, Semicolon, Colon, Equals, Plus, Minus, Star, Slash, Percent, LessThan, GreaterThan, AndWord, OrWord, NotWord, OpenBracket, CloseBracket}
 
 -- the keywords and the symbols, as they are spelled
 abbrev pub item_words : List (List ℕ × Token)
@@ -103,3 +105,37 @@ tokens_of (p ∷ rest) = p.token ∷ tokens_of rest
 
 unfoldable pub tokens : List ℕ → List Token
 tokens text = tokens_of (placed_tokens text)
+
+-- what a text of the surface language has beside those
+
+abbrev pub connectives : List (List ℕ × Token)
+connectives = (codes "and", AndWord) ∷ (codes "or", OrWord) ∷ (codes "not", NotWord) ∷ []
+
+abbrev pub begins_as_temporary : List ℕ → Bool
+begins_as_temporary name = bytes_eq (take 2 name) (codes "__")
+
+-- three names are keywords there, and those that begin with two underscores are bad
+abbrev pub surface_word : List ℕ → Token
+surface_word name = unwrap_or (spelled connectives name) (if begins_as_temporary name then Bad else Named name)
+
+-- two of the bad bytes are symbols
+abbrev pub surface_mark : List ℕ → Token
+surface_mark from = if begins_with 91 from then OpenBracket else (if begins_with 93 from then CloseBracket else Bad)
+
+-- what a token is there, from whose first byte on the text is this
+abbrev pub surface_token : Token → List ℕ → Token
+surface_token (Named name) from = surface_word name
+surface_token Bad from = surface_mark from
+surface_token token from = token
+
+abbrev pub token_in : Language → Token → List ℕ → Token
+token_in Core token from = token
+token_in Surface token from = surface_token token from
+
+abbrev pub placed_in : Language → Placed → Placed
+placed_in language p = record { token = token_in language p.token p.from; from = p.from }
+
+-- the tokens of a text of a language, with their places
+abbrev pub language_tokens : Language → List ℕ → List Placed
+language_tokens Core text = placed_tokens text
+language_tokens Surface text = map (placed_in Surface) (placed_tokens text)

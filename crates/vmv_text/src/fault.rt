@@ -19,8 +19,10 @@ pub enum ReadFault {
 
 /// Why a part of a program was not read. The cursor stands before the token at fault.
 #[derive(Clone, Copy, PartialEq, Eq, Debug)]
-pub(crate) enum Fault {
+pub enum Fault {
+    /// No part goes on with this token.
     Syntax,
+    /// Memory ran out.
     Memory,
 }
 

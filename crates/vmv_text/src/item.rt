@@ -20,7 +20,7 @@ const MOST_NESTED: u8 = 8;
 
 impl Cursor<'_> {
     /// The variables that a body declares.
-    fn vars(&mut self, alloc: Global) -> Result<Names, Fault>
+    pub fn vars(&mut self, alloc: Global) -> Result<Names, Fault>
         ensures { ReadsAs (λ xs. xs) IsVars NoVar result self.old self.new }
     {
         if self.takes(Symbol::VarWord) {
@@ -46,7 +46,7 @@ impl Cursor<'_> {
     }
 
     /// What an outside function has behind its word.
-    fn outside(&mut self) -> Result<Item, Fault>
+    pub fn outside(&mut self) -> Result<Item, Fault>
         ensures { ReadsAs item_of (IsItemBehind OutsideWord) Any result self.old self.new }
     {
         let name = self.name()?;

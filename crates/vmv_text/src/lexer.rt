@@ -1,8 +1,9 @@
 ghost use Rattle.std.specs.Prelude.{◌≡◌, ◌<◌, ◌≤◌, length, drop, take, take_while, false, ◌++◌, Some, [], ◌∷◌, IsTrue, IsSome};
 ghost use Rattle.std.specs.List.{prefix_len, list_all};
 ghost use Rattle.vmv_tree.specs.Names.{is_letter, is_digit, is_name_byte, first_is_letter};
-ghost use Rattle.vmv_text.specs.Tokens.{is_white, after_gap, number_of, number_token, word_token, mark_token, token_at, spelled, item_words, stmt_words, loop_words, keywords, pairs, marks};
+ghost use Rattle.vmv_text.specs.Tokens.{is_white, after_gap, number_of, number_token, word_token, mark_token, token_at, spelled, item_words, stmt_words, loop_words, keywords, pairs, marks, connectives, begins_as_temporary, surface_word, surface_mark, surface_token, token_in};
 
+use crate::language::Language;
 use crate::token::{Small, Token};
 use vmv_tree::Name;
 
@@ -242,4 +243,70 @@ pub(crate) fn token_at(text: &[u8]) -> (Token, usize)
         return (number(&text[..len]), len);
     }
     symbol(text)
+}
+
+fn connective(word: &[u8]) -> Option<Token>
+    ensures { result ≡ spelled connectives word.now }
+{
+    if word == b"and".as_slice() {
+        return Some(Token::AndWord);
+    }
+    if word == b"or".as_slice() {
+        return Some(Token::OrWord);
+    }
+    if word == b"not".as_slice() {
+        return Some(Token::NotWord);
+    }
+    None
+}
+
+fn begins_as_temporary(bytes: &[u8]) -> bool
+    ensures { result ≡ begins_as_temporary bytes.now }
+{
+    match bytes {
+        [first, second, ..] => *first == b'_' && *second == b'_',
+        _ => false,
+    }
+}
+
+/// What a name is in a text of the surface language.
+fn surface_word(name: Name) -> Token
+    ensures { result ≡ surface_word name }
+{
+    match connective(name.bytes()) {
+        Some(token) => token,
+        None if begins_as_temporary(name.bytes()) => Token::Bad,
+        None => Token::Named(name),
+    }
+}
+
+/// What a bad byte is there.
+fn surface_mark(from: &[u8]) -> Token
+    ensures { result ≡ surface_mark from.now }
+{
+    match from {
+        [b'[', ..] => Token::OpenBracket,
+        [b']', ..] => Token::CloseBracket,
+        _ => Token::Bad,
+    }
+}
+
+fn surface_token(token: Token, from: &[u8]) -> Token
+    ensures { result ≡ surface_token token from.now }
+{
+    match token {
+        Token::Named(name) => surface_word(name),
+        Token::Bad => surface_mark(from),
+        other => other,
+    }
+}
+
+/// What a token is in a text of this language, from whose first byte on the text is this.
+pub(crate) fn spoken(language: Language, token: Token, from: &[u8]) -> Token
+    ensures { result ≡ token_in language token from.now }
+{
+    match language {
+        Language::Core => token,
+        Language::Surface => surface_token(token, from),
+    }
 }

@@ -11,6 +11,7 @@ mod fault;
 mod flat;
 mod item;
 mod item_part;
+mod language;
 mod laws;
 mod lexer;
 mod lists;
@@ -23,10 +24,14 @@ mod statement;
 mod symbol;
 mod token;
 
-pub use fault::ReadFault;
+pub use cursor::Cursor;
+pub use fault::{Fault, ReadFault};
 pub use item_part::Parsed;
+pub use language::Language;
 pub use laws::{
     mention_has_its_name, names_are_mentions, no_program_at_fault, one_fault, one_program,
 };
 pub use mention::mention_place;
-pub use read::{MOST_BYTES, read_program};
+pub use read::{MOST_BYTES, column, line, read_program};
+pub use symbol::Symbol;
+pub use token::{Small, Token};

@@ -12,7 +12,7 @@ use vmv_tree::{Args, Names, Param, Params};
 
 impl Cursor<'_> {
     /// Names with commas between them, and the token behind them.
-    pub(crate) fn names_to(&mut self, alloc: Global, last: Symbol) -> Result<Names, Fault>
+    pub fn names_to(&mut self, alloc: Global, last: Symbol) -> Result<Names, Fault>
         requires { as_token last ≡ Comma → ⊥ }
         ensures { Reads (CommasTo (as_token last) IsName) result self.old self.new }
     {
@@ -69,7 +69,7 @@ impl Cursor<'_> {
     }
 
     /// A helper's parameters, and the closing parenthesis.
-    pub(crate) fn names(&mut self, alloc: Global) -> Result<Names, Fault>
+    pub fn names(&mut self, alloc: Global) -> Result<Names, Fault>
         ensures { Reads (Listed IsName) result self.old self.new }
     {
         if self.takes(Symbol::CloseParen) {
@@ -89,7 +89,7 @@ impl Cursor<'_> {
     }
 
     /// An entry's parameters, and the closing parenthesis.
-    pub(crate) fn params(&mut self, alloc: Global) -> Result<Params, Fault>
+    pub fn params(&mut self, alloc: Global) -> Result<Params, Fault>
         ensures { Reads (Listed IsParam) result self.old self.new }
     {
         if self.takes(Symbol::CloseParen) {

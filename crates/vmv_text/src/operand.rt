@@ -15,7 +15,7 @@ use crate::token::Token;
 use vmv_tree::{Name, Op, Operand, Rel, Test};
 
 /// The name that a token is.
-pub(crate) fn name_of(token: &Option<Token>) -> Option<Name>
+pub fn name_of(token: &Option<Token>) -> Option<Name>
     ensures { MatchOption result ((x : Name) → token.now ≡ Some (Named x) → ⊥) (λ x. token.now ≡ Some (Named x)) }
 {
     match token {
@@ -75,7 +75,8 @@ fn rel_of(token: &Option<Token>) -> Option<Rel>
 }
 
 impl Cursor<'_> {
-    pub(crate) fn name(&mut self) -> Result<Name, Fault>
+    /// A name.
+    pub fn name(&mut self) -> Result<Name, Fault>
         ensures { Reads IsName result self.old self.new }
     {
         let Some(name) = name_of(self.peek()) else {
@@ -86,7 +87,7 @@ impl Cursor<'_> {
     }
 
     /// A number from 0 to 2^63 - 1.
-    pub(crate) fn small(&mut self) -> Result<i64, Fault>
+    pub fn small(&mut self) -> Result<i64, Fault>
         ensures { Reads IsSmall result self.old self.new }
     {
         let Some(word) = small_of(self.peek()) else {
@@ -107,7 +108,8 @@ impl Cursor<'_> {
         Ok(word)
     }
 
-    pub(crate) fn lit(&mut self) -> Result<i64, Fault>
+    /// A literal, with its sign.
+    pub fn lit(&mut self) -> Result<i64, Fault>
         ensures { Reads IsLit result self.old self.new }
     {
         if self.takes(Symbol::Minus) {
@@ -128,7 +130,8 @@ impl Cursor<'_> {
         Ok(Operand::Lit(word))
     }
 
-    pub(crate) fn op(&mut self) -> Result<Op, Fault>
+    /// An operation.
+    pub fn op(&mut self) -> Result<Op, Fault>
         ensures { Reads IsOp result self.old self.new }
     {
         let Some(op) = op_of(self.peek()) else {
@@ -138,7 +141,8 @@ impl Cursor<'_> {
         Ok(op)
     }
 
-    fn rel(&mut self) -> Result<Rel, Fault>
+    /// A comparison.
+    pub fn rel(&mut self) -> Result<Rel, Fault>
         ensures { Reads IsRel result self.old self.new }
     {
         let Some(rel) = rel_of(self.peek()) else {

@@ -15,8 +15,8 @@ use std::str;
 /// The most bytes of a text.
 pub const MOST_BYTES: usize = 1_048_576;
 
-/// The column behind these bytes.
-pub(crate) fn column(front: &[u8]) -> u32
+/// The column behind these bytes: one more than the bytes since the last line feed.
+pub fn column(front: &[u8]) -> u32
     requires { length front.now ≤ 1048576 }
     ensures { result ≡ column_after front.now }
 {
@@ -31,8 +31,8 @@ pub(crate) fn column(front: &[u8]) -> u32
     column
 }
 
-/// The line behind these bytes.
-pub(crate) fn line(front: &[u8]) -> u32
+/// The line behind these bytes: one more than the line feeds.
+pub fn line(front: &[u8]) -> u32
     requires { length front.now ≤ 1048576 }
     ensures { result ≡ line_after front.now }
 {

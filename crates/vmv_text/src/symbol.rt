@@ -5,7 +5,7 @@ use crate::token::Token;
 
 /// A token that the grammar asks for by itself: a keyword or a mark with one spelling.
 #[derive(Clone, Copy, PartialEq, Eq, Debug)]
-pub(crate) enum Symbol {
+pub enum Symbol {
     Minus,
     Colon,
     Dots,
@@ -21,6 +21,11 @@ pub(crate) enum Symbol {
     CapWord,
     VarWord,
     ReturnWord,
+    AndWord,
+    OrWord,
+    NotWord,
+    OpenBracket,
+    CloseBracket,
 }
 
 /// The symbol that a token is.
@@ -43,6 +48,11 @@ fn symbol_of(token: &Token) -> Option<Symbol>
         Token::CapWord => Some(Symbol::CapWord),
         Token::VarWord => Some(Symbol::VarWord),
         Token::ReturnWord => Some(Symbol::ReturnWord),
+        Token::AndWord => Some(Symbol::AndWord),
+        Token::OrWord => Some(Symbol::OrWord),
+        Token::NotWord => Some(Symbol::NotWord),
+        Token::OpenBracket => Some(Symbol::OpenBracket),
+        Token::CloseBracket => Some(Symbol::CloseBracket),
         _ => None,
     }
 }

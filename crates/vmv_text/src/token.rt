@@ -6,7 +6,7 @@ use vmv_tree::Name;
 
 /// A number from 0 to 2^63 - 1.
 #[derive(Clone, Copy, PartialEq, Eq, Debug)]
-pub(crate) struct Small {
+pub struct Small {
     value: u64,
 }
 
@@ -34,14 +34,14 @@ impl Small {
     }
 
     /// The number as a word.
-    pub(crate) fn word(&self) -> i64
+    pub fn word(&self) -> i64
         ensures { result ≡ pos self.now }
     {
         self.value as i64
     }
 
     /// The number with the other sign.
-    pub(crate) fn negated(&self) -> i64
+    pub fn negated(&self) -> i64
         ensures { result ≡ neg_ℤ (pos self.now) }
     {
         -(self.value as i64)
@@ -50,7 +50,7 @@ impl Small {
 
 /// A token of a program's text.
 #[derive(Clone, Copy, PartialEq, Eq, Debug)]
-pub(crate) enum Token {
+pub enum Token {
     Named(Name),
     Number(Small),
     Edge,
@@ -86,4 +86,10 @@ pub(crate) enum Token {
     Percent,
     LessThan,
     GreaterThan,
+    // These five stand in texts of the surface language alone.
+    AndWord,
+    OrWord,
+    NotWord,
+    OpenBracket,
+    CloseBracket,
 }

@@ -1,0 +1,4 @@
+pub mod Numerals
+pub mod Stacks
+pub mod Runs
+pub mod Ends

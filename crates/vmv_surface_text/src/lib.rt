@@ -1,0 +1,6 @@
+//! The texts of surface programs: their grammar, and what reads their expressions.
+#![tactic(auto)]
+
+mod expr;
+
+pub use expr::expression;
