@@ -1,6 +1,7 @@
 pub mod Writing
 pub mod Naming
 pub mod Placing
+pub mod Passing
 pub mod Gathering
 pub mod Listing
 pub mod Lent

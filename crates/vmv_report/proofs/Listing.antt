@@ -1,10 +1,12 @@
 -- The sites that an entry may fail at, from the lists of those that aren't provable.
-use Rattle.std.proofs.Common.{◌≡◌, ◌≢◌, ℕ, List, [], ◌∷◌, refl, subst, arith}
+use Rattle.std.proofs.Common.{◌≡◌, ◌≢◌, ℕ, List, [], ◌∷◌, refl, sym, subst, arith}
 use Rattle.std.specs.List.{Contains}
 use Rattle.vmv_tree.specs.declared.site.NamedSite.{NamedSite}
 use Rattle.vmv_assumption.specs.Assumed.{Assumed}
 use Rattle.vmv_assumption.specs.Whole.{whole}
 use Rattle.vmv_witness.specs.declared.witness.Witness.{Witness}
+use Rattle.vmv_cert.specs.Tables.{AreSitesOf}
+use Rattle.vmv_report.specs.declared.proving.EntrySites.{EntrySites}
 use Rattle.vmv_report.specs.Rows.{Review}
 use Rattle.vmv_report.specs.Work.{WhereSome, AreUnproved, AreFoundBy, AreSitesFor}
 
@@ -49,3 +51,14 @@ sites_of_both review n assumed always relative found e some are are_relative mor
   relative = where_more always (AreUnproved review.revision n review.ends review.needed) relative some are_relative;
   found = where_more relative (AreFoundBy review.revision review.enough n) found more runs;
 }
+
+-- both lists are of sites that the entry reaches, in order
+pub in_order : (review : Review) (n : ℕ) (sites : EntrySites) → AreSitesFor review n sites → AreSitesOf review.revision n sites.always × AreSitesOf review.revision n sites.relative
+in_order review n sites are = (are.always.sites, by sites.always are.relative)
+  where
+    nothing : AreSitesOf review.revision n []
+    nothing = record { each = λ site there. absurd (none_in site there); sorted = λ i one other at_one at_other. absurd (cc) }
+
+    by : (always : List NamedSite) → WhereSome always (AreUnproved review.revision n review.ends review.needed) sites.relative → AreSitesOf review.revision n sites.relative
+    by [] none = subst (AreSitesOf review.revision n) (sym none) nothing
+    by (x ∷ xs) some = some.sites

@@ -24,6 +24,8 @@ use Rattle.vmv_report.specs.declared.row.ReportRow.{ReportRow}
 use Rattle.vmv_report.specs.declared.proving.Judging.{Judging}
 use Rattle.vmv_report.specs.declared.proving.EntrySites.{EntrySites}
 use Rattle.vmv_report.specs.declared.told.Told.{Told}
+use Rattle.vmv_report.specs.declared.ahead.Ahead.{Ahead}
+use Rattle.vmv_tree.specs.Run.{name_of}
 use Rattle.vmv_report.specs.Rows.{Place, place_of, IsPlace, IsBefore, Review, IsOfClass, AreWitnesses, regression_count}
 
 -- the row's entry and the procedure of its site are procedures of the program
@@ -96,13 +98,42 @@ pub record AreSitesOfAll (review : Review) (entries : List ProcId) (sites : List
 abbrev pub IsInBoth : EntrySites → NamedSite → Type 0
 IsInBoth sites site = Contains sites.always site × Contains sites.relative site
 
--- the class that the lists tell; none of a site that is in both
+-- the class of a site by whether it is in the lists; none of one that is in both
+abbrev pub IsToldBy : (always relative : Type 0) → Option Class → Type 0
+IsToldBy always relative (Some Clean) = ¬ always
+IsToldBy always relative (Some Hidden) = always × (¬ relative)
+IsToldBy always relative (Some Regression) = ⊥
+IsToldBy always relative (Some Alarm) = ⊥
+IsToldBy always relative None = always × relative
+
 abbrev pub IsToldClass : EntrySites → NamedSite → Option Class → Type 0
-IsToldClass sites site (Some Clean) = ¬ Contains sites.always site
-IsToldClass sites site (Some Hidden) = Contains sites.always site × (¬ Contains sites.relative site)
-IsToldClass sites site (Some Regression) = ⊥
-IsToldClass sites site (Some Alarm) = ⊥
-IsToldClass sites site None = IsInBoth sites site
+IsToldClass sites site class = IsToldBy (Contains sites.always site) (Contains sites.relative site) class
+
+-- the site stands before the place, by procedure in text order, then by number
+pub record StandsBefore (program : Resolution) (place : Place) (site : NamedSite) : Type 0 where
+  pub proc : ℕ
+  pub named : slice_get (map name_of (procs_of program)) proc ≡ Some site.proc
+  pub order : (proc < place.proc) ⊎ ((proc ≡ place.proc) × (site.index < place.index))
+
+-- of these sites, in order, all that don't stand before the place
+pub record AreAhead (program : Resolution) (place : Place) (sites ahead : List NamedSite) : Type 0 where
+  pub passed : List NamedSite
+  pub parts : sites ≡ passed ++ ahead
+  pub before : (site : NamedSite) → Contains passed site → StandsBefore program place site
+  pub behind : (site : NamedSite) → Contains ahead site → ¬ StandsBefore program place site
+
+-- of both lists of an entry
+abbrev pub IsAhead : Resolution → Place → EntrySites → Ahead → Type 0
+IsAhead program place sites ahead = AreAhead program place sites.always ahead.always.now × AreAhead program place sites.relative ahead.relative.now
+
+-- the site comes next
+abbrev pub IsNext : List NamedSite → NamedSite → Type 0
+IsNext [] site = ⊥
+IsNext (first ∷ rest) site = first ≡ site
+
+-- the site is passed where it comes next
+abbrev pub IsPassed : List NamedSite → NamedSite → List NamedSite → Type 0
+IsPassed old site new = (old ≡ site ∷ new) ⊎ ((¬ IsNext old site) × (new ≡ old))
 
 -- the run fails at the site, and fewer than 8 rows are regressions of the entry
 abbrev pub IsNextRun : ℕ → List Witness → NamedSite → Witness → Type 0

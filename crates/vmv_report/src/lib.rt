@@ -1,6 +1,7 @@
 //! Reviews: what is told of a revision by what is necessary for its base to be safe, as a report and as its text.
 #![tactic(auto)]
 
+mod ahead;
 mod class;
 mod conds;
 mod entries;

@@ -7,9 +7,8 @@ ghost use Rattle.vmv_assumption.specs.Assumed.{cond_of};
 ghost use Rattle.vmv_cert.specs.declared.row.Row.{Row as Listed};
 ghost use Rattle.vmv_proof.specs.declared.proof.Shown.{Shown as Tables};
 ghost use Rattle.vmv_proving.specs.Shown.{AreShown};
-ghost use Rattle.vmv_report.specs.Work.{review_of, IsReady, AreUnproved, AreFoundBy, AreSitesFor, AreSitesAt, IsToldClass};
+ghost use Rattle.vmv_report.specs.Work.{review_of, IsReady, AreUnproved, AreFoundBy, AreSitesFor, AreSitesAt};
 
-use crate::class::Class;
 use sqlite_items::Items;
 use std::alloc::{AllocError, Global};
 use vmv_assumption::Assumption;
@@ -221,29 +220,4 @@ pub(crate) fn is_same(one: &NamedSite, other: &NamedSite) -> bool
     ensures { IsTrue result ↔ (one.now ≡ other.now) }
 {
     one.index == other.index && one.proc.bytes() == other.proc.bytes()
-}
-
-/// Whether the site is listed.
-fn lists(sites: &[NamedSite], site: &NamedSite) -> bool
-    ensures { IsTrue result ↔ Contains sites.now site.now }
-{
-    for other in sites {
-        if is_same(other, site) {
-            return true;
-        }
-    }
-    false
-}
-
-/// The class of a site; none of one that isn't provable in either way.
-pub(crate) fn class_of(sites: &EntrySites, site: &NamedSite) -> Option<Class>
-    ensures { IsToldClass sites.now site.now result }
-{
-    if !lists(sites.always.as_slice(), site) {
-        return Some(Class::Clean);
-    }
-    if !lists(sites.relative.as_slice(), site) {
-        return Some(Class::Hidden);
-    }
-    None
 }

@@ -1,12 +1,13 @@
 ghost use Rattle.std.specs.Prelude.{◌≡◌, ◌+◌, ◌<◌, ◌≤◌, Some, true, map, length, slice_get, IfOk, OnOk};
 ghost use Rattle.vmv_snapshot.specs.Procs.{is_entry};
 ghost use Rattle.vmv_snapshot.specs.Reaches.{Reaches};
-ghost use Rattle.vmv_snapshot.specs.Resolution.{tree_of, procs_of};
+ghost use Rattle.vmv_snapshot.specs.Resolution.{tree_of, procs_of, IsResolution};
 ghost use Rattle.vmv_report.specs.Rows.{named_site, IsPlace, AreRows, AreWitnesses};
-ghost use Rattle.vmv_report.specs.Work.{review_of, IsReady, AreSitesFor, AreSitesOfAll, IsInBoth, IsToldBefore, at};
+ghost use Rattle.vmv_report.specs.Work.{review_of, IsReady, AreSitesFor, AreSitesOfAll, IsInBoth, IsToldBefore, IsAhead, at};
 
+use crate::ahead::Ahead;
 use crate::class::Class;
-use crate::proving::{EntrySites, Judging, class_of};
+use crate::proving::{EntrySites, Judging};
 use crate::row::ReportRow;
 use crate::told::{Told, copy_run, next_run};
 use sqlite_items::Items;
@@ -50,24 +51,28 @@ fn add_unproved(
     }
 }
 
-/// Adds the row of a site.
+/// Adds the row of a site, which is the next.
 fn add_row(
     alloc: Global,
     told: &mut Told,
+    ahead: &mut Ahead<'_>,
     judging: &Judging<'_>,
     sites: &EntrySites,
     entry: ProcId,
     site: SiteId,
 ) -> Result<(), AllocError>
+    requires resolution { IsResolution judging.now.revision.now }
     requires proc { site.proc.0 < length (procs_of judging.now.revision.now) }
     requires place { IsPlace judging.now.revision.now (at entry.0 site.proc.0 site.index) }
     requires sites { AreSitesFor (review_of judging.now) entry.0 sites.now }
     requires before { IsToldBefore (review_of judging.now) (at entry.0 site.proc.0 site.index) told.old }
-    ensures { OnOk result (IsToldBefore (review_of judging.now) (at entry.0 site.proc.0 (site.index + 1)) told.new) }
+    requires ahead { IsAhead judging.now.revision.now (at entry.0 site.proc.0 site.index) sites.now ahead.old }
+    ensures told { OnOk result (IsToldBefore (review_of judging.now) (at entry.0 site.proc.0 (site.index + 1)) told.new) }
+    ensures ahead { IsAhead judging.now.revision.now (at entry.0 site.proc.0 (site.index + 1)) sites.now ahead.new }
 {
     let proc = judging.revision.proc_name(site.proc);
     let index = site.index;
-    match class_of(sites, &NamedSite { proc, index }) {
+    match ahead.class_of(&NamedSite { proc, index }) {
         Some(class) => told.rows.push(ReportRow { entry, site, class }),
         None => add_unproved(alloc, told, judging, sites, entry, site),
     }
@@ -77,21 +82,26 @@ fn add_row(
 fn add_sites(
     alloc: Global,
     told: &mut Told,
+    ahead: &mut Ahead<'_>,
     judging: &Judging<'_>,
     sites: &EntrySites,
     entry: ProcId,
     proc: ProcId,
 ) -> Result<(), AllocError>
+    requires resolution { IsResolution judging.now.revision.now }
     requires entry { slice_get (map is_entry (procs_of judging.now.revision.now)) entry.0 ≡ Some true }
     requires proc { proc.0 < length (procs_of judging.now.revision.now) }
     requires reached { Reaches (tree_of judging.now.revision.now) entry.0 proc.0 }
     requires sites { AreSitesFor (review_of judging.now) entry.0 sites.now }
     requires before { IsToldBefore (review_of judging.now) (at entry.0 proc.0 1) told.old }
-    ensures { OnOk result (IsToldBefore (review_of judging.now) (at entry.0 (proc.0 + 1) 1) told.new) }
+    requires ahead { IsAhead judging.now.revision.now (at entry.0 proc.0 1) sites.now ahead.old }
+    ensures told { OnOk result (IsToldBefore (review_of judging.now) (at entry.0 (proc.0 + 1) 1) told.new) }
+    ensures ahead { OnOk result (IsAhead judging.now.revision.now (at entry.0 (proc.0 + 1) 1) sites.now ahead.new) }
 {
     for done in 0..judging.revision.site_count(proc) {
         let index = done + 1;
-        add_row(alloc, told, judging, sites, entry, SiteId { proc, index })?;
+        let site = SiteId { proc, index };
+        add_row(alloc, told, ahead, judging, sites, entry, site)?;
     }
     Ok(())
 }
@@ -100,20 +110,24 @@ fn add_sites(
 fn add_proc(
     alloc: Global,
     told: &mut Told,
+    ahead: &mut Ahead<'_>,
     judging: &Judging<'_>,
     sites: &EntrySites,
     entry: ProcId,
     number: u16,
 ) -> Result<(), AllocError>
+    requires resolution { IsResolution judging.now.revision.now }
     requires entry { slice_get (map is_entry (procs_of judging.now.revision.now)) entry.0 ≡ Some true }
     requires number { number < length (procs_of judging.now.revision.now) }
     requires sites { AreSitesFor (review_of judging.now) entry.0 sites.now }
     requires before { IsToldBefore (review_of judging.now) (at entry.0 number 1) told.old }
-    ensures { OnOk result (IsToldBefore (review_of judging.now) (at entry.0 (number + 1) 1) told.new) }
+    requires ahead { IsAhead judging.now.revision.now (at entry.0 number 1) sites.now ahead.old }
+    ensures told { OnOk result (IsToldBefore (review_of judging.now) (at entry.0 (number + 1) 1) told.new) }
+    ensures ahead { OnOk result (IsAhead judging.now.revision.now (at entry.0 (number + 1) 1) sites.now ahead.new) }
 {
     let proc = ProcId(number);
     if judging.revision.reaches(entry, proc) {
-        return add_sites(alloc, told, judging, sites, entry, proc);
+        return add_sites(alloc, told, ahead, judging, sites, entry, proc);
     }
     Ok(())
 }
@@ -126,13 +140,18 @@ fn add_procs(
     sites: &EntrySites,
     entry: ProcId,
 ) -> Result<(), AllocError>
+    requires resolution { IsResolution judging.now.revision.now }
     requires entry { slice_get (map is_entry (procs_of judging.now.revision.now)) entry.0 ≡ Some true }
     requires sites { AreSitesFor (review_of judging.now) entry.0 sites.now }
     requires before { IsToldBefore (review_of judging.now) (at entry.0 0 1) told.old }
     ensures { OnOk result (IsToldBefore (review_of judging.now) (at (entry.0 + 1) 0 1) told.new) }
 {
+    let mut ahead = Ahead {
+        always: sites.always.as_slice(),
+        relative: sites.relative.as_slice(),
+    };
     for number in 0..judging.revision.proc_count() {
-        add_proc(alloc, told, judging, sites, entry, number)?;
+        add_proc(alloc, told, &mut ahead, judging, sites, entry, number)?;
     }
     told.regressions = 0;
     Ok(())
