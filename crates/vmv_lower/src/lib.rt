@@ -8,4 +8,4 @@ mod step;
 
 pub use expression::{LoweredExpr, assigned, lowered};
 pub use names::temporary;
-pub use step::{Step, Steps};
+pub use step::{Step, Steps, TestStep, TestSteps};

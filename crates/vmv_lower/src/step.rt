@@ -1,4 +1,4 @@
-use vmv_tree::{Name, Op};
+use vmv_tree::{Name, Op, Rel};
 
 /// A step of an expression, which stands behind the steps of what it takes.
 #[derive(Clone, Copy, PartialEq, Eq, Debug, Drop)]
@@ -17,3 +17,19 @@ pub enum Step {
 
 /// The steps of an expression, in order.
 pub type Steps = sqlite_items::Items<Step>;
+
+/// A step of a test, which stands behind the steps of what it takes.
+#[derive(Debug, Drop)]
+pub enum TestStep {
+    /// A comparison of two expressions, by the steps of each.
+    Compare { left: Steps, rel: Rel, right: Steps },
+    /// The last doesn't hold.
+    Not,
+    /// Both of the last two hold.
+    And,
+    /// One of the last two holds.
+    Or,
+}
+
+/// The steps of a test, in order.
+pub type TestSteps = sqlite_items::Items<TestStep>;
