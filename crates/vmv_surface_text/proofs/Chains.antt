@@ -1,29 +1,14 @@
 -- Operations of one strength in a row: an expression that binds more strongly, and then operators, each with another.
-use Rattle.std.proofs.Common.{true, false, Bool, eqb, ◌≡◌, ℕ, zero, suc, ◌+◌, ◌<◌, List, [], ◌∷◌, ◌++◌, drop, Some, Err, refl, sym, ◌∙◌, ap, subst, arith}
+use Rattle.std.proofs.Common.{true, false, Bool, eqb, ◌≡◌, ℕ, zero, suc, ◌+◌, ◌<◌, List, [], ◌∷◌, ◌++◌, refl, sym, ◌∙◌, ap, subst, arith}
 use Rattle.std.proofs.lemmas.Bool.{eqb-true, eqb-false}
 use Rattle.vmv_tree.specs.declared.tree.Op.{Op}
 use Rattle.vmv_text.specs.declared.token.Token.{Token}
-use Rattle.vmv_text.specs.declared.fault.Fault.{Fault}
-use Rattle.vmv_text.specs.Tokens.{Placed}
-use Rattle.vmv_text.specs.Grammar.{Takes, op_token}
-use Rattle.vmv_text.specs.Reading.{Meets, Ends, ReadsAs, first_of}
-use Rattle.vmv_text.proofs.Steps.{Then, Along, Open, same, onward, step, done, failed, token_taken, first_skipped}
-use Rattle.vmv_text.proofs.Single.{meets_first}
+use Rattle.vmv_text.specs.Grammar.{op_token}
 use Rattle.vmv_text.proofs.OneBlock.{op_once, op_paren}
 use Rattle.vmv_surface.specs.Surface.{Expr, literal, variable, operate, minus, ask}
 use Rattle.vmv_surface_text.specs.Grammar.{IsBareExpr, IsExprAt, binding, strength}
 use Rattle.vmv_surface_text.specs.Reading.{FitsAt}
-
--- what stands behind the first: operators of this strength, each with what it takes
-pub TailAt : ℕ → List (Op × Expr) → Takes
-TailAt level [] ts rest = ts ≡ rest
-TailAt level (t ∷ more) ts rest =
-    (mid : List Token) × (back : List Token) × (binding t.0 ≡ level) × (ts ≡ op_token t.0 ∷ mid) × IsExprAt (level + 1) t.1 mid back × TailAt level more back rest
-
--- grouped from the left
-abbrev pub grown : Expr → List (Op × Expr) → Expr
-grown acc [] = acc
-grown acc (t ∷ more) = grown (operate t.0 acc t.1) more
+use Rattle.vmv_surface_text.specs.Opening.{TailAt, grown}
 
 pub weaker : (level : ℕ) (e : Expr) (ts rest : List Token) → IsExprAt (level + 1) e ts rest → IsExprAt level e ts rest
 weaker level e ts rest (k, mid, pairs, a, b) = (k, mid, λ h. pairs (omega (arith, h)), a, b)
@@ -128,80 +113,17 @@ unfolding TailAt
 fits_tail level [] q rest f h = subst (FitsAt (level + 1)) (sym h) (fits_stronger level rest f)
 fits_tail level (t ∷ more) q rest f h = subst (FitsAt (level + 1)) (sym h.3) (fits_op level t.0 h.0 h.2)
 
--- A row in the reading: what was taken makes this expression, and a tail may follow.
-pub record Chain (level : ℕ) (start : List Placed) (acc : Expr) (now : List Placed) : Type 0 where
-  pub along : Along (IsExprAt level) (FitsAt level) (λ (tails : List (Op × Expr)). grown acc tails) start (TailAt level) now
+-- a tail that begins with an operator of its strength
+pub record TailFrom (level : ℕ) (op : Op) (tails : List (Op × Expr)) (us rest : List Token) : Type 0 where
+  pub right : Expr
+  pub more : List (Op × Expr)
+  pub back : List Token
+  pub first : IsExprAt (level + 1) right us back
+  pub second : TailAt level more back rest
 
-pub chain-parts : (level : ℕ) → level < 2 → (now : List Placed) → Along (IsExprAt level) (FitsAt level) (λ (p : Expr × List (Op × Expr)). grown p.0 p.1) now (Then (IsExprAt (level + 1)) (TailAt level)) now
-chain-parts level low now =
-    same (IsExprAt level) (FitsAt level) (λ (p : Expr × List (Op × Expr)). grown p.0 p.1) now (Then (IsExprAt (level + 1)) (TailAt level))
-    (λ p us rest k. tails_join level p.1 p.0 us k.mid rest (weaker level p.0 us k.mid k.first) k.second)
-    (λ e us rest m ok k.
-    let p = parted level low e us rest k in
-    ((p.first, p.tails), record { mid = p.mid; first = p.begins; second = p.goes_on }))
-
-pub open_tail : (level : ℕ) → Open (TailAt level)
-unfolding TailAt
-open_tail level = record { some = []; more = []; goes_on = λ rest. refl }
-
-pub chain_start : (level : ℕ) → level < 2 → (first : Expr) (old now : List Placed) → Ends (IsExprAt (level + 1)) (FitsAt (level + 1)) first old now → Chain level old first now
-chain_start level low first old now e = record {
-  along = step (IsExprAt level) (IsExprAt (level + 1)) (TailAt level) (FitsAt level) (FitsAt (level + 1)) (λ (p : Expr × List (Op × Expr)). grown p.0 p.1) first old old now (chain-parts level low old) e (fits_tail level);
-}
-
--- the first isn't there
-pub chain_failed : {V W : Type 0} (level : ℕ) → level < 2 → (view : V → Expr) (view' : W → Expr) (fault : Fault) (old new : List Placed)
-    → ReadsAs view (IsExprAt (level + 1)) (FitsAt (level + 1)) (Err fault) old new → ReadsAs view' (IsExprAt level) (FitsAt level) (Err fault) old new
-chain_failed level low view view' fault old new e =
-    failed (IsExprAt level) (IsExprAt (level + 1)) (TailAt level) (FitsAt level) (FitsAt (level + 1)) (λ (p : Expr × List (Op × Expr)). grown p.0 p.1) view view' fault old old new (chain-parts level low old) e (fits_tail level) (open_tail level)
-
--- what a tail has behind one operator
-
-tail_behind : (level : ℕ) (op : Op) → binding op ≡ level → (tails : List (Op × Expr)) (us rest : List Token) → FitsAt level rest → TailAt level tails (op_token op ∷ us) rest → (p : Expr × List (Op × Expr)) × Then (IsExprAt (level + 1)) (TailAt level) p us rest
+pub tail_behind : (level : ℕ) (op : Op) → binding op ≡ level → (tails : List (Op × Expr)) (us rest : List Token) → FitsAt level rest → TailAt level tails (op_token op ∷ us) rest → TailFrom level op tails us rest
 unfolding TailAt
 tail_behind level op is [] us rest f k = absurd (f.no_op op (omega (arith, is)) us (sym k))
 tail_behind level op is (t ∷ more) us rest f k =
     let here : k.0 ≡ us = cc (k.3) in
-    ((t.1, more), record { mid = k.1; first = subst (λ (u : List Token). IsExprAt (level + 1) t.1 u k.1) here k.4; second = k.5 })
-
-tail_made : (level : ℕ) (op : Op) → binding op ≡ level → (p : Expr × List (Op × Expr)) (us rest : List Token) → Then (IsExprAt (level + 1)) (TailAt level) p us rest → TailAt level ((op, p.0) ∷ p.1) (op_token op ∷ us) rest
-unfolding TailAt
-tail_made level op is p us rest k = (us, k.mid, is, refl, k.first, k.second)
-
-tail-parts : (level : ℕ) (op : Op) → binding op ≡ level → (old now : List Placed) → first_of old ≡ Some (op_token op) → now ≡ drop 1 old
-    → Along (TailAt level) (FitsAt level) (λ (p : Expr × List (Op × Expr)). (op, p.0) ∷ p.1) old (Then (IsExprAt (level + 1)) (TailAt level)) now
-tail-parts level op is old now first e =
-    let k = first_skipped (op_token op) old now first e in
-    token_taken (TailAt level) (FitsAt level) (λ (p : Expr × List (Op × Expr)). (op, p.0) ∷ p.1) (Then (IsExprAt (level + 1)) (TailAt level)) (op_token op) k.0 old now k.1
-    (tail_made level op is) (tail_behind level op is)
-
-chain_op : (level : ℕ) (op : Op) → binding op ≡ level → (start : List Placed) (acc : Expr) (now mid : List Placed) → Chain level start acc now → first_of now ≡ Some (op_token op) → mid ≡ drop 1 now
-    → Along (IsExprAt level) (FitsAt level) (λ (p : Expr × List (Op × Expr)). grown (operate op acc p.0) p.1) start (Then (IsExprAt (level + 1)) (TailAt level)) mid
-chain_op level op is start acc now mid c first e =
-    onward (IsExprAt level) (TailAt level) (Then (IsExprAt (level + 1)) (TailAt level)) (FitsAt level) (λ (tails : List (Op × Expr)). grown acc tails) (λ (p : Expr × List (Op × Expr)). (op, p.0) ∷ p.1) start now mid c.along (tail-parts level op is now mid first e)
-
--- an operator and another
-pub chain_more : (level : ℕ) (op : Op) → binding op ≡ level → (start : List Placed) (acc right : Expr) (now mid new : List Placed) → Chain level start acc now → first_of now ≡ Some (op_token op) → mid ≡ drop 1 now
-    → Ends (IsExprAt (level + 1)) (FitsAt (level + 1)) right mid new → Chain level start (operate op acc right) new
-chain_more level op is start acc right now mid new c first e r = record {
-  along = step (IsExprAt level) (IsExprAt (level + 1)) (TailAt level) (FitsAt level) (FitsAt (level + 1)) (λ (p : Expr × List (Op × Expr)). grown (operate op acc p.0) p.1) right start mid new (chain_op level op is start acc now mid c first e) r (fits_tail level);
-}
-
-pub chain_stops : {V W : Type 0} (level : ℕ) (op : Op) → binding op ≡ level → (view : V → Expr) (view' : W → Expr) (fault : Fault) (start : List Placed) (acc : Expr) (now mid new : List Placed) → Chain level start acc now → first_of now ≡ Some (op_token op) → mid ≡ drop 1 now
-    → ReadsAs view (IsExprAt (level + 1)) (FitsAt (level + 1)) (Err fault) mid new → ReadsAs view' (IsExprAt level) (FitsAt level) (Err fault) start new
-chain_stops level op is view view' fault start acc now mid new c first e r =
-    failed (IsExprAt level) (IsExprAt (level + 1)) (TailAt level) (FitsAt level) (FitsAt (level + 1)) (λ (p : Expr × List (Op × Expr)). grown (operate op acc p.0) p.1) view view' fault start mid new (chain_op level op is start acc now mid c first e) r (fits_tail level) (open_tail level)
-
--- no operator is next
-no_tail : (level : ℕ) (now : List Placed) → ((op : Op) → binding op ≡ level → first_of now ≡ Some (op_token op) → ⊥) → (tails : List (Op × Expr)) (us rest : List Token) → Meets now us → TailAt level tails us rest → rest ≡ us
-unfolding TailAt
-no_tail level now none [] us rest m k = sym k
-no_tail level now none (t ∷ more) us rest m k = absurd (none t.0 k.2 (meets_first (op_token t.0) now us k.0 m k.3))
-
-tail_ends : (level : ℕ) (now : List Placed) → ((op : Op) → binding op ≡ level → first_of now ≡ Some (op_token op) → ⊥) → Ends (TailAt level) (FitsAt level) [] now now
-unfolding TailAt
-tail_ends level now none = record { used = []; place = refl; made = λ us. refl; only = λ tails us rest m ok k. no_tail level now none tails us rest m k }
-
-pub chain_done : (level : ℕ) (start : List Placed) (acc : Expr) (now : List Placed) → Chain level start acc now → ((op : Op) → binding op ≡ level → first_of now ≡ Some (op_token op) → ⊥) → Ends (IsExprAt level) (FitsAt level) acc start now
-chain_done level start acc now c none =
-    done (IsExprAt level) (TailAt level) (FitsAt level) (λ (tails : List (Op × Expr)). grown acc tails) [] start now now c.along (tail_ends level now none)
+    record { right = t.1; more = more; back = k.1; first = subst (λ (u : List Token). IsExprAt (level + 1) t.1 u k.1) here k.4; second = k.5 }

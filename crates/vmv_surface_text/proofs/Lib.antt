@@ -1,5 +1,8 @@
 mod Examples
 pub mod Chains
 pub mod Atoms
-pub mod Arguments
-pub mod Readings
+pub mod Leading
+pub mod Outside
+pub mod Operands
+pub mod Operators
+pub mod Readers

@@ -1,15 +1,16 @@
 -- What the readers of parts say of what they took.
-use Rattle.std.specs.Prelude.{◌≡◌, ℕ, ◌≤◌, List, ◌∷◌}
+use Rattle.std.specs.Prelude.{◌≡◌, ◌≤◌, ℕ, ℤ, pos, Bool, true, false, Some, List}
+use Rattle.vmv_tree.specs.declared.name.Name.{Name}
 use Rattle.vmv_tree.specs.declared.tree.Op.{Op}
 use Rattle.vmv_text.specs.declared.token.Token.{Token}
-use Rattle.vmv_text.specs.declared.token.Token.TheVariants.{OpenParen, CloseParen}
-use Rattle.vmv_text.specs.Grammar.{Takes, op_token}
-use Rattle.vmv_text.specs.Reading.{Lacks}
-use Rattle.vmv_surface.specs.Surface.{Expr, Args, no_args, arg}
+use Rattle.vmv_text.specs.declared.token.Token.TheVariants.{Named, Number, Minus, OpenParen}
+use Rattle.vmv_text.specs.Tokens.{Placed}
+use Rattle.vmv_text.specs.Grammar.{op_token}
+use Rattle.vmv_text.specs.Reading.{Lacks, IsSizeOf, first_of}
+use Rattle.vmv_surface.specs.Surface.{Expr}
 use Rattle.vmv_lower.specs.declared.step.Step.{Step}
-use Rattle.vmv_lower.specs.Steps.{steps_of, args_steps, count}
-use Rattle.vmv_surface_text.specs.declared.expr.Given.{Given}
-use Rattle.vmv_surface_text.specs.Grammar.{IsExprAt, AreArgs, binding}
+use Rattle.vmv_lower.specs.Steps.{steps_of}
+use Rattle.vmv_surface_text.specs.Grammar.{binding}
 
 -- what may stand behind an expression: no parenthesis, and no operator of this strength or more
 pub record FitsAt (level : ℕ) (rest : List Token) : Type 0 where
@@ -20,19 +21,14 @@ pub record FitsAt (level : ℕ) (rest : List Token) : Type 0 where
 abbrev pub HasSteps : List Step → Expr → Type 0
 HasSteps steps e = steps ≡ steps_of e
 
--- those of the arguments that were taken, and how many these are
-abbrev pub GivesArgs : Given → Args → Type 0
-GivesArgs given args = (given.steps ≡ args_steps args) × (given.count ≡ count args)
+-- the token ends this literal, with a sign in front of it or without
+abbrev pub EndsLit : (signed : Bool) → Token → ℤ → Type 0
+EndsLit true token z = IsSizeOf z (Some token)
+EndsLit false token z = (n : ℕ) × (z ≡ pos n) × (token ≡ Number n)
 
--- what an expression has behind its first token
-abbrev pub BehindAt : ℕ → Token → Expr → Takes
-BehindAt asked t e us rest = IsExprAt asked e (t ∷ us) rest
-
--- arguments, and the closing parenthesis
-abbrev pub CallOf : Args → Takes
-CallOf args us rest = AreArgs args us (CloseParen ∷ rest)
-
--- one at least, and the closing parenthesis
-abbrev pub SomeOf : Args → Takes
-SomeOf no_args us rest = ⊥
-SomeOf (arg first more) us rest = AreArgs (arg first more) us (CloseParen ∷ rest)
+-- this token is next, and it begins neither an atom nor a sign
+pub record IsOther (now : List Placed) (token : Token) : Type 0 where
+  pub next : first_of now ≡ Some token
+  pub no_name : (name : Name) → token ≡ Named name → ⊥
+  pub no_group : token ≡ OpenParen → ⊥
+  pub no_sign : token ≡ Minus → ⊥

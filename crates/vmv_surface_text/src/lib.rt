@@ -2,5 +2,6 @@
 #![tactic(auto)]
 
 mod expr;
+mod reader;
 
 pub use expr::expression;
